@@ -4,9 +4,9 @@
     oracle/scripts.py ORACLE    ORACLE: the program that oracle/build makes
 
 The calls stand below. An answer comes from the unchanged Rust, which carries out the same call, with the checksum of its image.
-Where document 01 says something else than the Rust, or has a limit that the Rust has not, the answer is written here by hand, with the
-reason; the script then insists that the Rust says something else (but for a listing, which the Rust has not, and a window that it cannot make).
-A call that document 02 adds or gives another meaning, and one with a name that the Rust's codec does not turn back, is answered by hand too,
+Where the rules (docs/RULES.md) say something else than the Rust, or have a limit that the Rust has not, the answer is written here by hand,
+with the reason; the script then insists that the Rust says something else (but for a listing, which the Rust has not, and a window that it
+cannot make). A call that the Rust has not or means otherwise, and one with a name that its codec does not turn back, is answered by hand too,
 and so is what a record holds; the script insists that the Rust's used total and its largest free region have moved as the record has.
 Where a program lies behind the table, the Rust's free list is taken with the program out of it, and nothing else of its space. Each call ends
 with a comment that says where its answer comes from. Nothing here comes from the program `replay` or from what it tests."""
@@ -50,7 +50,7 @@ class Script:
     def __init__(self, oracle):
         self.oracle = oracle
         self.lines = []
-        self.rust = self.paper = self.images = 0
+        self.rust = self.rules = self.images = 0
         self.held = None  # the record in use
 
     def heading(self, text):
@@ -94,28 +94,27 @@ class Script:
         if source.startswith("Rust"):
             self.rust += 1
         else:
-            self.paper += 1
+            self.rules += 1
 
     # ---- edits
 
-    def edit(self, name, *arguments, note="", paper=None, why="", image=None, of="01", differs=None, record=None):
-        """An edit. `paper`: the answer by document `of`, `ok`, `ok NUMBER` or the number of a refusal, and `why` the Rust's is not it.
-        `image`: where that document accepts what the Rust refuses or is not asked, a function that has the oracle make the image that it
-        describes. `differs`: whether the Rust has to say something else; so it is for document 01. `record`: what an accepted edit makes of
-        the record in use, by document 02."""
+    def edit(self, name, *arguments, note="", rules=None, why="", image=None, differs=True, record=None):
+        """An edit. `rules`: the answer by the rules, `ok`, `ok NUMBER` or the number of a refusal, and `why` the Rust's is not it.
+        `image`: where they accept what the Rust refuses or is not asked, a function that has the oracle make the image that they
+        describe. `differs`: whether the Rust has to say something else. `record`: what an accepted edit makes of the record in use."""
         before = self.oracle("used") if self.held else ""
         line = " ".join([CALLS.get(name, name)] + [shown(a) for a in arguments])
         command = " ".join([COMMANDS.get(name, name)] + [str(a) if isinstance(a, int) else a.hex() or "-" for a in arguments])
-        if paper is None:
+        if rules is None:
             answer, source = as_answer(self.oracle(command), line), "Rust" + (f"; {note}" if note else "")
         else:
-            answer, source = self.by_hand(command, line, paper, image, of == "01" if differs is None else differs), f"{of}: {why}"
+            answer, source = self.by_hand(command, line, rules, image, differs), f"rules: {why}"
         if self.held and answer[0] == 0:
             self.moved_to(before, record, line)
         self.call(line, [answer[0], int(self.oracle.checksum(), 16)] + answer[1:] + (self.held or []), source)
 
-    def by_hand(self, command, line, paper, image, differs):
-        answer = [paper] if isinstance(paper, int) else [0] + [int(word) for word in paper.split()[1:]]
+    def by_hand(self, command, line, rules, image, differs):
+        answer = [rules] if isinstance(rules, int) else [0] + [int(word) for word in rules.split()[1:]]
         self.oracle.setting("save before")
         said = self.oracle(command)
         image_said = self.oracle.checksum()
@@ -134,11 +133,11 @@ class Script:
         self.held = list(numbers) or None
 
     def make_record(self, used, largest, why):
-        """`make_record`, which the Rust has not: used bytes and the largest free region by document 02. What is not free is used."""
+        """`make_record`, which the Rust has not: used bytes and the largest free region. What is not free is used."""
         sizes = [size for _, size in self.free_said()]
         assert [used, largest] == [int(self.oracle.setting("total")) - sum(sizes), max(sizes, default=0)], (why, sizes)
         self.held = [used, largest, 0]
-        self.call("make_record", [0] + self.held, f"02: {why}")
+        self.call("make_record", [0] + self.held, f"rules: {why}")
 
     def moved_to(self, before, record, line):
         """The record after an accepted edit: the Rust's used total has moved by as much, and its largest free region is this."""
@@ -149,20 +148,19 @@ class Script:
 
     # ---- calls that read
 
-    def look(self, name, *arguments, note="", paper=None, why="", of="01", differs=None):
-        """A call that reads. `paper`: the answer by document `of`, a number, or 0 and the words of the answer; `differs` as for an edit."""
+    def look(self, name, *arguments, note="", rules=None, why="", differs=True):
+        """A call that reads. `rules`: the answer by the rules, a number, or 0 and the words of the answer; `differs` as for an edit."""
         line = " ".join([name] + [n(a) if isinstance(a, int) else text(a) for a in arguments])
         said = self.said(name, arguments)
-        if paper is None:
+        if rules is None:
             assert said, (line, "no answer by the Rust")
             return self.call(line, said, "Rust" + (f"; {note}" if note else ""))
-        answer = [paper] if isinstance(paper, int) else list(paper)
-        differs = of == "01" if differs is None else differs
+        answer = [rules] if isinstance(rules, int) else list(rules)
         assert not differs or said != answer, (line, "the Rust agrees", said)
-        return self.call(line, answer, f"{of}: {why}")
+        return self.call(line, answer, f"rules: {why}")
 
     def said(self, name, arguments):
-        """What the Rust says, in the form of a line; None where it says nothing that 01 knows."""
+        """What the Rust says, in the form of a line; None where it says nothing that has a number."""
         commands = {"open": "open", "entry": "entry", "lookup": "lookup", "max_file_size": "maxfile", "max_region_size": "maxregion",
                     "allocate": "alloc", "free_regions": "free", "totals": "total", "header": "header", "open_dol": "dol", "open_file": "maxfile"}
         if name not in commands:
@@ -201,13 +199,13 @@ class Script:
                 int(self.oracle.setting("used"))]
 
     def clusters(self, answer, why):
-        """`free_clusters`, which the Rust has not. `answer`: the number of a refusal, or before, clusters and rest of each region, by
-        document 02; together they have to be the sizes of the Rust's free regions."""
+        """`free_clusters`, which the Rust has not. `answer`: the number of a refusal, or before, clusters and rest of each region;
+        together they have to be the sizes of the Rust's free regions."""
         if isinstance(answer, int):
-            return self.call("free_clusters", [answer], f"02: {why}")
+            return self.call("free_clusters", [answer], f"rules: {why}")
         sizes = [before + 0x8000 * clusters + rest for before, clusters, rest in answer]
         assert sizes == [size for _, size in self.free_said()], (why, sizes)
-        return self.call("free_clusters", [0, len(answer)] + [number for region in answer for number in region], f"02: {why}")
+        return self.call("free_clusters", [0, len(answer)] + [number for region in answer for number in region], f"rules: {why}")
 
     def free_said(self):
         """The Rust's free regions, without a program that lies behind the table."""
@@ -226,24 +224,24 @@ class Script:
         return (at, max(self.said("open_dol", ())[2], 0xE4)) if at else (0, 0)
 
     def program(self, offset, size, why):
-        """`program`, which the Rust has not, by document 02; its header is read by the Rust."""
+        """`program`, which the Rust has not; its header is read by the Rust."""
         assert (offset, size) == self.program_said(), (why, self.program_said())
-        return self.call("program", [0, offset, size], f"02: {why}")
+        return self.call("program", [0, offset, size], f"rules: {why}")
 
     def free_regions(self):
         """The Rust's free list after the program is taken out of it."""
         regions = self.free_said()
         return self.call("free_regions", [0, len(regions)] + [number for region in regions for number in region], "Rust; the program taken out")
 
-    def text(self, name, room, note="", paper=None, why="", of="01"):
-        """`list` or `report` into a buffer of so many bytes; what a call does not write there are dots. `paper`: the number of a refusal, or
-        the text, by document `of`."""
+    def text(self, name, room, note="", rules=None, why=""):
+        """`list` or `report` into a buffer of so many bytes; what a call does not write there are dots. `rules`: the number of a refusal, or
+        the text, by the rules."""
         line = f"{name} {n(room)}"
-        if paper is None:
+        if rules is None:
             listing = self.listing_said()
             source = "Rust" + (f"; {note}" if note else "")
         else:
-            listing, source = paper, f"{of}: {why}"
+            listing, source = rules, f"rules: {why}"
         if isinstance(listing, int):
             return self.call(line, [listing], source)
         assert len(listing) <= room <= 4096, (line, len(listing))
@@ -272,18 +270,18 @@ class Script:
         self.ops.append(op)
         return self.oracle.setting(" ".join([self.opener] + self.ops)).split()[-1].split("=")[1]
 
-    def seek(self, whence, distance, note="", paper=None, why=""):
+    def seek(self, whence, distance, note="", rules=None, why=""):
         line = f"seek_{whence} {n(distance % 2 ** 64)}"
         shown = f"{distance}, " if distance < 0 else ""
-        if paper is not None:
-            return self.call(line, [paper] if isinstance(paper, int) else paper, f"01: {shown}{why}")
+        if rules is not None:
+            return self.call(line, [rules] if isinstance(rules, int) else rules, f"rules: {shown}{why}")
         said = self.ask_window(f"{whence[0]}:{distance}")
         answer = [23] if said == "err:Io:InvalidInput" else [0, int(said)]
         return self.call(line, answer, "Rust" + (f"; {distance}" if distance < 0 else "") + (f"; {note}" if note else ""))
 
-    def read(self, length, op=None, note="", paper=None, why=""):
-        if paper is not None:
-            return self.call(f"read {n(length)}", paper, f"01: {why}")
+    def read(self, length, op=None, note="", rules=None, why=""):
+        if rules is not None:
+            return self.call(f"read {n(length)}", rules, f"rules: {why}")
         count, shown = self.ask_window(op or f"r:{length}").split(":")
         count = int(count)
         bytes_ = bytes.fromhex(shown)[:count] + b"." * (length - count)
@@ -337,7 +335,7 @@ def fnv(bytes_):
 
 
 def is_answer(said):
-    """Whether the Rust's answer is one that document 01 knows, and a refusal left the image as it was."""
+    """Whether the Rust's answer is one that has a number, and a refusal left the image as it was."""
     words = said.split()
     return words[0] == "ok" or (words[0] == "err" and words[1] in NUMBERS and words[2] == "same")
 
@@ -399,7 +397,7 @@ HALF = "half-done refusal: the Rust leaves its copy in the image"
 
 def small_master(s):
     s.lend(0x1000, 0x1000)
-    new_image(s, "small master of document 01", 0x2000, A_AT_500, free=False)
+    new_image(s, "the small master", 0x2000, A_AT_500, free=False)
     s.edit("move", 1, 0x580, note="P4")
     s.edit("move", 1, 0x600, note="P5")
     s.load()
@@ -418,13 +416,13 @@ def memory(s):
     s.load()
     s.edit("rewrite")
     s.lend(0xF, 0x1A)
-    s.edit("move", 1, 0x600, paper=9, why=short)
-    s.edit("rewrite", paper=9, why=short)
-    s.edit("move", 7, 0x600, paper=9, why=short + ", before 15")
+    s.edit("move", 1, 0x600, rules=9, why=short)
+    s.edit("rewrite", rules=9, why=short)
+    s.edit("move", 7, 0x600, rules=9, why=short + ", before 15")
     s.lend(0x10, 0x19)
-    s.edit("move", 1, 0x600, paper=9, why=few)
-    s.edit("resize", 1, 0x80, paper=9, why=few)
-    s.edit("rewrite", paper=9, why=few)
+    s.edit("move", 1, 0x600, rules=9, why=few)
+    s.edit("resize", 1, 0x80, rules=9, why=few)
+    s.edit("rewrite", rules=9, why=few)
     s.edit("resize", 1, 0x100, note="the present size: no working bytes")
     s.lend(0x10, 0)
     s.edit("resize", 1, 0x100, note="the present size: no working bytes")
@@ -435,9 +433,9 @@ def memory(s):
     s.edit("resize", 1, 0x1B01)
     s.edit("resize", 2, 0)
     s.edit("resize", 0, 0)
-    s.edit("move", 1, 0x600, paper=9, why="no working byte")
+    s.edit("move", 1, 0x600, rules=9, why="no working byte")
     s.lend(0, 0)
-    s.edit("resize", 1, 0x100, paper=9, why="no working word, not even for the present size")
+    s.edit("resize", 1, 0x100, rules=9, why="no working word, not even for the present size")
     s.lend(0x1000, 0x1000)
 
 
@@ -461,7 +459,7 @@ def places(s):
     s.edit("move", 2, 0x600)
     s.edit("move", 0xFFFFFFFF, 0x600)
     s.edit("move", 0, 0x600)
-    s.edit("resize", 1, 0x180, note="grown bytes are what the free space held")
+    s.edit("resize", 1, 0x180, note="what it gains is as the free space held it")
     s.edit("resize", 1, 0xFF, note="zeros over the lost end")
     s.edit("resize", 1, 0xA6)
     s.edit("move", 1, 0x45B)
@@ -491,8 +489,8 @@ def spoiled_master(s):
     s.patch(0x700, b"the only copy!!!")
     s.save()
     s.peek(0x700, 0x10)
-    s.edit("move", 2, 0x466, paper=21, why=SHARED)
-    s.edit("move", 2, 0x467, paper=21, why=SHARED)
+    s.edit("move", 2, 0x466, rules=21, why=SHARED)
+    s.edit("move", 2, 0x467, rules=21, why=SHARED)
     s.peek(0x440, 0x28)
     s.peek(0x700, 0x10)
     s.edit("move", 2, 0x468, note="right behind the grown table")
@@ -505,9 +503,9 @@ def spoiled_master(s):
     s.edit("move", 2, 0x468)
     s.load()
     s.lend(0x14, 0x27)
-    s.edit("move", 2, 0x466, paper=9, why="one working byte too few, before the table's place")
+    s.edit("move", 2, 0x466, rules=9, why="one working byte too few, before the table's place")
     s.lend(0x14, 0x28)
-    s.edit("move", 2, 0x466, paper=21, why=SHARED)
+    s.edit("move", 2, 0x466, rules=21, why=SHARED)
     s.edit("move", 2, 0x468)
     s.lend(0x1000, 0x1000)
 
@@ -516,9 +514,9 @@ def grown_over(s):
     table = directory(0, 0, 4) + file(0, 0x500, 0x10) + file(0, 0x472, 0) + file(0, 0x474, 0) + b"a\0"
     new_image(s, "three files share a text, two of them empty and near the table's end: growth in place and the growing table", 0x2000,
               table, files=[(0x500, 0x10)])
-    s.edit("resize", 2, 1, paper=21, why=GROWN)
-    s.edit("resize", 3, 1, paper=21, why=GROWN)
-    s.edit("move", 1, 0x475, paper=21, why=SHARED)
+    s.edit("resize", 2, 1, rules=21, why=GROWN)
+    s.edit("resize", 3, 1, rules=21, why=GROWN)
+    s.edit("move", 1, 0x475, rules=21, why=SHARED)
     s.edit("move", 2, 0x475)
     s.edit("move", 3, 0x475, note="empty files bar no table")
     s.load()
@@ -537,8 +535,8 @@ def half_done(s):
     new_image(s, "two files share a text and one lies right behind the table: no table can be written", 0x2000, table,
               files=[(0x466, 0x10), (0x700, 0x10)])
     s.edit("rewrite")
-    s.edit("move", 2, 0x900, paper=21, why=HALF)
-    s.edit("move", 1, 0x900, paper=21, why=HALF)
+    s.edit("move", 2, 0x900, rules=21, why=HALF)
+    s.edit("move", 1, 0x900, rules=21, why=HALF)
     s.edit("resize", 2, 8)
     s.edit("resize", 1, 8)
     s.edit("resize", 1, 0)
@@ -548,7 +546,7 @@ def half_done(s):
     s.edit("move", 2, 0x466)
     table = directory(0, 0, 4) + file(0, 0x500, 0x100) + file(0, 0x474, 2) + file(0, 0x600, 2) + b"a\0"
     new_image(s, "the same where growth must find another place", 0x9000, table, files=[(0x500, 0x100), (0x474, 2), (0x600, 2)])
-    s.edit("resize", 1, 0x101, paper=21, why=HALF)
+    s.edit("resize", 1, 0x101, rules=21, why=HALF)
     s.edit("resize", 1, 0xFF)
     s.edit("resize", 2, 3)
 
@@ -589,7 +587,7 @@ def empty_files(s):
     s.edit("resize", 11, 2, note="one more than is left: another place")
     s.load()
     for offset in (0x900, 0, 0x441, 0x2001, 0xC000, 0xFFFFFFFF, 0xFFFFFFFE):
-        s.edit("move", 1, offset, note="an empty file may go anywhere")
+        s.edit("move", 1, offset, note="an empty file goes anywhere")
     s.edit("move", 12, 0x800)
     s.edit("move", 13, 0x6FFF)
     s.edit("move", 13, 0x7001)
@@ -693,7 +691,7 @@ def game_names(s):
     opaque = "the game name is opaque: the Rust on the same image with an empty game name, and the name put back"
 
     def renamed(name, command):
-        """01's image: the Rust's, with the game name that it does not take put back."""
+        """The image by the rules: the Rust's, with the game name that it does not take put back."""
         def make():
             s.oracle.setting("patch 0x20 " + "00" * 0x3E0)
             assert s.oracle(command) == "ok"
@@ -701,16 +699,16 @@ def game_names(s):
         return make
     name = b"Counter!" * 0x7C
     s.fill(0x20, 0x7C, b"Counter!")
-    s.edit("move", 1, 0x600, paper="ok", why=opaque, image=renamed(name, "move 1 0x600"))
-    s.edit("resize", 1, 0x80, paper="ok", why=opaque, image=renamed(name, "resize 1 0x80"))
-    s.edit("rewrite", paper="ok", why=opaque, image=renamed(name, "rewrite"))
-    s.edit("move", 1, 0x640, paper=20, why="the game name is opaque; P4's case")
+    s.edit("move", 1, 0x600, rules="ok", why=opaque, image=renamed(name, "move 1 0x600"))
+    s.edit("resize", 1, 0x80, rules="ok", why=opaque, image=renamed(name, "resize 1 0x80"))
+    s.edit("rewrite", rules="ok", why=opaque, image=renamed(name, "rewrite"))
+    s.edit("move", 1, 0x640, rules=20, why="the game name is opaque; P4's case")
     new_image(s, "a game name with bytes behind its first zero byte; a text that no entry uses, so that the header is written", 0x2000,
               A_AT_500 + b"unused\0", files=[(0x500, 0x100)])
     s.patch(0x20, b"a\0b")
     s.peek(0x20, 4)
     name = b"a\0b" + bytes(0x3DD)
-    s.edit("resize", 1, 0x80, paper="ok", why=opaque, image=renamed(name, "resize 1 0x80"))
+    s.edit("resize", 1, 0x80, rules="ok", why=opaque, image=renamed(name, "resize 1 0x80"))
     s.peek(0x20, 4)
 
 
@@ -738,9 +736,9 @@ def unopened(s):
         s.load()
         s.heading(text)
         change()
-        s.edit("move", 1, 0x600, paper=number, why=why)
-        s.edit("resize", 1, 0x80, paper=number, why=why)
-        s.edit("rewrite", paper=number, why=why)
+        s.edit("move", 1, 0x600, rules=number, why=why)
+        s.edit("resize", 1, 0x80, rules=number, why=why)
+        s.edit("rewrite", rules=number, why=why)
 
 
 def limits(s):
@@ -752,14 +750,14 @@ def limits(s):
     s.edit("resize", 1, 0)
     s.edit("resize", 1, 1)
     s.lend(0x1014, 0x10300B)
-    s.edit("rewrite", paper=9, why="one working byte too few, before the table's place")
+    s.edit("rewrite", rules=9, why="one working byte too few, before the table's place")
     s.edit("resize", 1, 0, note="the present size")
     s.edit("resize", 1, 0x7000)
     table = [(directory(0, 0, 1026), 1), (file(0, 0, 0), 1024), (file(1022, 0, 0), 1), (b"x", 1023), (b"\0", 1)]
     new_image(s, "a name more: 2 bytes of text over the limit", 0x8000, table)
     s.lend(0x1018, 0x110000)
-    s.edit("rewrite", paper=9, why="texts over 1,048,576 bytes")
-    s.edit("move", 1, 7, paper=9, why="texts over 1,048,576 bytes")
+    s.edit("rewrite", rules=9, why="texts over 1,048,576 bytes")
+    s.edit("move", 1, 7, rules=9, why="texts over 1,048,576 bytes")
     s.edit("resize", 1, 0, note="the present size")
     s.lend(0x10008, 0x38000)
     table = [(directory(0, 0, 0x4000), 1), (file(0, 0, 0), 0x3FFF), (b"a\0", 1)]
@@ -770,7 +768,7 @@ def limits(s):
     s.edit("resize", 0x3FFF, 0x1000)
     s.edit("resize", 0x4000, 1)
     s.lend(0x10007, 0x38000)
-    s.edit("rewrite", paper=9, why="one working word too few")
+    s.edit("rewrite", rules=9, why="one working word too few")
     s.lend(0x1000, 0x1000)
 
 
@@ -779,25 +777,25 @@ def limits_of_inserts(s):
     table = [(directory(0, 0, 0x3FFF), 1), (file(0, 0x40000, 0), 0x3FFE), (b"a\0", 1)]
     new_image(s, "16,383 entries: one more, and no more", 0x40000, table)
     over = "entries over 16,384"
-    s.edit("make_directories", 0, b"b/c", paper=9, why=over)
+    s.edit("make_directories", 0, b"b/c", rules=9, why=over)
     s.edit("make_directories", 0, b"b/c/..:", note="13 before 9")
     s.edit("insert_file", 0, b"a")
     s.edit("insert_directory", 0, b"b")
-    s.edit("insert_file", 0x3FFF, b"c", paper=9, why=over)
+    s.edit("insert_file", 0x3FFF, b"c", rules=9, why=over)
     s.edit("insert_file", 0, b"b")
-    s.edit("insert_directory", 0, b"c", paper=9, why=over)
-    s.edit("make_directories", 0, b"b/c", paper=9, why=over)
+    s.edit("insert_directory", 0, b"c", rules=9, why=over)
+    s.edit("make_directories", 0, b"b/c", rules=9, why=over)
     s.edit("make_directories", 0, b"b/")
     s.load()
     s.lend(0x10007, 0x3A000)
-    s.edit("insert_file", 0, b"b", paper=9, why="one working word too few for the new tree")
+    s.edit("insert_file", 0, b"b", rules=9, why="one working word too few for the new tree")
     s.lend(0x1018, 0x110000)
     table = [(directory(0, 0, 1025), 1), (file(0, 0, 0), 1023), (file(2, 0, 0), 1), (b"x", 1023), (b"\0", 1)]
     new_image(s, "texts of 1,048,574 bytes: a name of one byte is within the limit, and has no room", 0x8000, table)
     s.edit("insert_file", 0, b"a")
-    s.edit("insert_file", 0, b"ab", paper=9, why="texts over 1,048,576 bytes")
+    s.edit("insert_file", 0, b"ab", rules=9, why="texts over 1,048,576 bytes")
     s.edit("make_directories", 0, b"a")
-    s.edit("make_directories", 0, b"ab/..", paper=9, why="texts over 1,048,576 bytes")
+    s.edit("make_directories", 0, b"ab/..", rules=9, why="texts over 1,048,576 bytes")
     s.lend(0x1000, 0x2000)
 
 
@@ -837,21 +835,21 @@ def inserts(s):
     s.edit("insert_directory", 0, b"b")
     s.load()
     s.lend(0x13, 0x28)
-    s.edit("insert_file", 0, b"b", paper=9, why="one working word too few for the new tree")
-    s.edit("insert_directory", 0, b"b", paper=9, why="one working word too few for the new tree")
+    s.edit("insert_file", 0, b"b", rules=9, why="one working word too few for the new tree")
+    s.edit("insert_directory", 0, b"b", rules=9, why="one working word too few for the new tree")
     s.edit("insert_file", 0, b"a", note="its own numbers before memory")
-    s.edit("insert_file", 0, b"bb", paper=9, why="one working word too few, before the table's place")
+    s.edit("insert_file", 0, b"bb", rules=9, why="one working word too few, before the table's place")
     s.lend(0x14, 0x27)
-    s.edit("insert_file", 0, b"b", paper=9, why="one working byte too few")
+    s.edit("insert_file", 0, b"b", rules=9, why="one working byte too few")
     s.edit("insert_file", 0, b"a")
     s.edit("insert_file", 1, b"b")
     s.edit("insert_file", 2, b"b")
     s.lend(0x10, 0)
     s.edit("insert_file", 0, b".")
     s.edit("insert_directory", 0, b"a")
-    s.edit("insert_directory", 0, b"b", paper=9, why="no memory for the new tree")
+    s.edit("insert_directory", 0, b"b", rules=9, why="no memory for the new tree")
     s.lend(0xF, 0x1000)
-    s.edit("insert_file", 0, b".", paper=9, why="one working word too few to open the image, before 13")
+    s.edit("insert_file", 0, b".", rules=9, why="one working word too few to open the image, before 13")
     s.lend(0x1000, 0x2000)
 
 
@@ -872,8 +870,8 @@ def names(s):
         s.edit("insert_file", 0, name)
     s.edit("insert_directory", 0, b"")
     for name in (b"\x01", b"x\x1F", b"\x7F", b"x\0", b"\0", b"\x80", b"\xFFab"):
-        s.edit("insert_file", 0, name, paper=12, why=BYTES)
-    s.edit("insert_directory", 3, b"\x09", paper=12, why=BYTES)
+        s.edit("insert_file", 0, name, rules=12, why=BYTES)
+    s.edit("insert_directory", 3, b"\x09", rules=12, why=BYTES)
     s.edit("insert_file", 0, b"\x01/", note="13 before 12")
     s.edit("insert_file", 2, b"\x01", note="17 before 12")
     s.edit("insert_file", 9, b"\x01")
@@ -908,7 +906,7 @@ def made(s):
                         (0, b"x/../.."), (0, b"x/y/../../.."), (0, b"x:"), (0, b"x/y:/z"), (0, b"d/ab/x"), (0, b"x/../ab"), (0, b"x/y/../../d/d/b")]:
         s.edit("make_directories", start, path)
     for path in (b"\x01", b"x/\x7F", b"\x01/..", b"\0", b"x/y\0z/..", b"\x80", b"d/\xFF"):
-        s.edit("make_directories", 0, path, paper=12, why=BYTES)
+        s.edit("make_directories", 0, path, rules=12, why=BYTES)
     s.edit("make_directories", 0, b"\x01/../..", note="12 last")
     s.edit("make_directories", 0, b"\x01/x:")
     s.edit("make_directories", 0, b"\x01/../ab")
@@ -917,10 +915,10 @@ def made(s):
         s.edit("make_directories", start, path)
         s.load()
     s.edit("make_directories", 0, b"/" * 1024)
-    s.edit("make_directories", 0, b"/" * 1025, paper=9, why="a path over 1,024 bytes")
-    s.edit("make_directories", 7, b"/" * 1025, paper=9, why="a path over 1,024 bytes, before 15")
+    s.edit("make_directories", 0, b"/" * 1025, rules=9, why="a path over 1,024 bytes")
+    s.edit("make_directories", 7, b"/" * 1025, rules=9, why="a path over 1,024 bytes, before 15")
     s.edit("make_directories", 0, b"y" * 1024)
-    s.edit("make_directories", 0, b"y" * 1025, paper=9, why="a path over 1,024 bytes")
+    s.edit("make_directories", 0, b"y" * 1025, rules=9, why="a path over 1,024 bytes")
     table = directory(0, 0, 5) + directory(0, 0, 3) + file(2, 0x800, 0x10) + directory(4, 0, 5) + file(2, 0x900, 0x10) + b"d\0a\0z\0"
     new_image(s, "d and z with a file each: what is made in d shifts the numbers in z", 0x2000, table, files=[(0x800, 0x10), (0x900, 0x10)])
     for path in (b"d/n/../../z", b"d/n/../../z/y", b"z/y/../../d/n/../../z/y", b"d/n/o/../../../z/../d/n/o", b"z/d/../../d/z/../../z/d"):
@@ -945,19 +943,19 @@ def made(s):
     s.edit("make_directories", 0, b"b/c")
     s.load()
     s.lend(0x17, 0x36)
-    s.edit("make_directories", 0, b"b/c", paper=9, why="one working word too few")
+    s.edit("make_directories", 0, b"b/c", rules=9, why="one working word too few")
     s.lend(0x18, 0x35)
-    s.edit("make_directories", 0, b"b/c", paper=9, why="one working byte too few")
+    s.edit("make_directories", 0, b"b/c", rules=9, why="one working byte too few")
     s.lend(0x10, 0x1A)
     s.edit("make_directories", 0, b".", note="words and bytes for the present tree")
-    s.edit("make_directories", 0, b"b", paper=9, why="no memory for the new tree")
+    s.edit("make_directories", 0, b"b", rules=9, why="no memory for the new tree")
     s.edit("make_directories", 0, b"b/c/d/../../../..", note="its own numbers before memory")
     s.edit("make_directories", 0, b"b/c/:")
     s.edit("make_directories", 0, b"b/c/../../a")
-    s.edit("make_directories", 0, b"b/\x02", paper=12, why=BYTES + "; before memory")
+    s.edit("make_directories", 0, b"b/\x02", rules=12, why=BYTES + "; before memory")
     s.edit("make_directories", 0, b"b/c/../../a/b")
     s.lend(0x10, 0x19)
-    s.edit("make_directories", 0, b"", paper=9, why="one working byte too few for the present tree")
+    s.edit("make_directories", 0, b"", rules=9, why="one working byte too few for the present tree")
     s.edit("make_directories", 0, b"..")
     s.lend(0x1000, 0x2000)
 
@@ -968,20 +966,20 @@ def deep(s):
     too_deep = "a directory deeper than 64"
     s.edit("rewrite")
     s.load()
-    s.edit("insert_directory", 64, b"e", paper=9, why=too_deep)
-    s.edit("insert_directory", 64, b"d", paper=9, why=too_deep)
+    s.edit("insert_directory", 64, b"e", rules=9, why=too_deep)
+    s.edit("insert_directory", 64, b"d", rules=9, why=too_deep)
     s.edit("insert_file", 64, b"e", note="a file may be deeper")
     s.edit("insert_directory", 63, b"e")
-    s.edit("insert_directory", 66, b"e", paper=9, why=too_deep)
+    s.edit("insert_directory", 66, b"e", rules=9, why=too_deep)
     s.edit("insert_directory", 64, b"e")
     s.load()
     s.edit("make_directories", 0, b"d/" * 64)
-    s.edit("make_directories", 0, b"d/" * 65, paper=9, why=too_deep)
-    s.edit("make_directories", 0, b"d/" * 64 + b"e/..", paper=9, why=too_deep)
+    s.edit("make_directories", 0, b"d/" * 65, rules=9, why=too_deep)
+    s.edit("make_directories", 0, b"d/" * 64 + b"e/..", rules=9, why=too_deep)
     s.edit("make_directories", 0, b"d/" * 64 + b"e/.:", note="13 before 9")
     s.edit("make_directories", 64, b"../d")
     s.edit("make_directories", 60, b"e/f/g/h")
-    s.edit("make_directories", 60, b"e/f/g/h/i", paper=9, why=too_deep)
+    s.edit("make_directories", 60, b"e/f/g/h/i", rules=9, why=too_deep)
     s.edit("move", 69, 0x900)
     s.edit("move", 65, 0x900)
 
@@ -1013,14 +1011,14 @@ def chain(s):
 
 def with_changes(s):
     """The small master as it is, and with a change for each refusal."""
-    new_image(s, "small master of document 01: what opening says of it, and of a change for each refusal", 0x2000, A_AT_500, free=False)
+    new_image(s, "the small master: what opening says of it, and of a change for each refusal", 0x2000, A_AT_500, free=False)
     s.lend(0x40, 0x1000)
     bounds = "bounds that the Rust does not test"
     s.look("open")
     s.look("totals")
     s.look("header")
     s.lend(15, 0x1000)
-    s.look("open", paper=9, why="15 words; two entries want 16")
+    s.look("open", rules=9, why="15 words; two entries want 16")
     s.lend(0x40, 0x1000)
     for note, change, number in [
             ("image of 0x43f bytes", lambda: s.size(0x43F), None),
@@ -1049,7 +1047,7 @@ def with_changes(s):
         s.load()
         change()
         if number:
-            s.look("open", paper=number, why=note)
+            s.look("open", rules=number, why=note)
         else:
             s.look("open", note=note)
     s.load()
@@ -1075,16 +1073,16 @@ def lookups(s):
         s.look("entry", k)
     rows = [1, 0, 0, 7, 0, 0, 1, 0, 0, 5, 0x494, 1, 0, 1, 0xFFFFFFFF, 0, 0x496, 2, 1, 1, 0, 5, 0x494, 1, 0, 3, 0x600, 0x10, 0x497, 1,
             0, 0, 0x500, 0x100, 0x496, 2, 0, 0, 0x441, 0, 0x496, 2]
-    s.look("entries", paper=[0, 0x440, 0x59, 0x2000, 7, 0x5A9] + rows, why="kind, nested in, offset, size or next, and where the name's bytes "
+    s.look("entries", rules=[0, 0x440, 0x59, 0x2000, 7, 0x5A9] + rows, why="kind, nested in, offset, size or next, and where the name's bytes "
            "stand and how many they are, for each entry; the list is just long enough")
     s.lend(0x40, 0x1000, 0x29)
-    s.look("entries", paper=9, why="a list that is a word short")
+    s.look("entries", rules=9, why="a list that is a word short")
     s.lend(0x40, 0x1000)
     for start, path in [(0, b"d"), (0, b"d/d/b"), (0, b"d\\d\\b"), (0, b"/d//d/./"), (0, b"ab"), (0, b"d/ab"), (0, b"d/../ab"), (0, b"d/d/../../d/d"), (0, b"b"),
                         (0, b"d/x"), (0, b"d/ab/"), (0, b"d/ab/.."), (0, b"d/../.."), (1, b"d/b"), (3, b"b"), (3, b".."), (5, b""), (7, b"d")]:
         s.look("lookup", start, path)
     s.look("lookup", 0, b"/" * 1024, note="1,024 bytes")
-    s.look("lookup", 0, b"/" * 1025, paper=9, why="a path over 1,024 bytes")
+    s.look("lookup", 0, b"/" * 1025, rules=9, why="a path over 1,024 bytes")
 
 
 # ---- free regions in clusters of 0x8000 bytes
@@ -1173,7 +1171,7 @@ def fields(s):
                (b"x", 0x10203), (b"y\0", 1)], free=False)
     s.lend(0x40, 0x1000)
     for k in range(1, 4):
-        s.look("entry", k, note="document 01, \"Fields are big-endian\"")
+        s.look("entry", k, note="numbers are big-endian")
     s.look("lookup", 0, b"y", note="its name stands at 0x010203")
     s.load()
     s.patch(0x44D, b"\xFF\xFF\xFF")
@@ -1236,12 +1234,12 @@ def reads(s):
     s.read(4)
     s.heading("a window that the Rust cannot be handed: start + position is above 2^64 - 1")
     s.window(4, 2 ** 64 - 1, 2 ** 64 - 2)
-    s.seek("current", 0, paper=[0, 2 ** 64 - 2], why="current with distance 0 always succeeds")
-    s.read(4, paper=[0, 0, 2 ** 64 - 2, b"...."], why="none are read past the image")
-    s.seek("current", 1, paper=23, why="start + position passes 2^64 - 1")
-    s.read(4, paper=[0, 0, 2 ** 64 - 2, b"...."], why="a refused seek leaves the window as it was")
-    s.seek("current", 3, paper=[0, 1], why="a distance is added modulo 2^64")
-    s.read(4, paper=[0, 4, 5, b"5678"], why="four bytes at 4 + 1")
+    s.seek("current", 0, rules=[0, 2 ** 64 - 2], why="a distance of 0 from the current position is never refused")
+    s.read(4, rules=[0, 0, 2 ** 64 - 2, b"...."], why="none are read past the image")
+    s.seek("current", 1, rules=23, why="start + position passes 2^64 - 1")
+    s.read(4, rules=[0, 0, 2 ** 64 - 2, b"...."], why="a refused seek leaves the window as it was")
+    s.seek("current", 3, rules=[0, 1], why="a distance is added modulo 2^64")
+    s.read(4, rules=[0, 4, 5, b"5678"], why="four bytes at 4 + 1")
 
 
 def put_program(s, at, text=(0, 0), data=(0, 0), until=None):
@@ -1266,7 +1264,7 @@ def executables(s):
         s.load()
         put_program(s, 0x1000, text, data)
         if number:
-            s.look("open_dol", paper=number, why=why, of="02" if number == 14 else "01")
+            s.look("open_dol", rules=number, why=why, differs=number != 14)
         else:
             s.dol_window()
             s.read(max(sum(text), sum(data)) + 1, note="all of the window")
@@ -1278,14 +1276,14 @@ def executables(s):
     s.look("open_dol", note="it passes the image's end")
     s.load()
     s.heading("DOL offset 0, which names no program: the image's first bytes, read as one; the magic at 0x1c is a section's offset")
-    for at, offset, size, paper in [(0, 0, 0, None), (0, 0xFFFFFFFE, 1, None), (0, 0xFFFFFFFF, 1, 24), (0x44, 0xFFFFFFFF, 0, None),
+    for at, offset, size, rules in [(0, 0, 0, None), (0, 0xFFFFFFFE, 1, None), (0, 0xFFFFFFFF, 1, 24), (0x44, 0xFFFFFFFF, 0, None),
                                     (0x44, 0xFFFFFFFF, 1, 24), (0x44, 0xFFFFFFFF, 0xFFFFFFFF, 24)]:
         s.load()
         s.patch(at, word(offset))
         s.patch(0x90 + at, word(size))
         s.look("open", note="opening does not look at it")
-        if paper:
-            s.look("open_dol", paper=paper, why=SUMS)
+        if rules:
+            s.look("open_dol", rules=rules, why=SUMS)
         else:
             s.dol_window()
             s.seek("start", 0x1FFC)
@@ -1323,19 +1321,19 @@ def none_named(s):
     s.patch(0, word(0xFFFFFFFF))
     s.patch(0x90, word(2))
     s.look("open", note="what stands at 0 is no program's header")
-    s.call("program", [0, 0, 0], "02: no program")
+    s.call("program", [0, 0, 0], "rules: no program")
     s.look("totals")
     s.look("free_regions")
-    s.look("open_dol", paper=24, why=SUMS)
+    s.look("open_dol", rules=24, why=SUMS)
     s.load()
     s.lend(0xF, 0)
-    s.look("program", paper=9, why="one working word too few", of="02")
+    s.look("program", rules=9, why="one working word too few", differs=False)
     s.lend(0x10, 0)
     for number, note, change in [(1, "image of 0x43f bytes", lambda: s.size(0x43F)), (3, "no GameCube magic", lambda: s.patch(0x1C, word(0))),
                                  (13, "name .", lambda: s.patch(0x458, b".")), (14, "file in the table", lambda: s.patch(0x450, word(0x459)))]:
         s.load()
         change()
-        s.look("program", paper=number, why=note, of="02")
+        s.look("program", rules=number, why=note, differs=False)
 
 
 def before_table(s):
@@ -1364,7 +1362,7 @@ def before_table(s):
                             ("move", (1, 0x440)), ("move", (1, 0x51C)), ("move", (1, 0x1000)), ("resize", (1, 0x1000)), ("resize", (1, 0x1001)),
                             ("resize", (1, 0))]:
         s.edit(name, *arguments)
-    s.call("program", [0, 0x440, 0x1C0], "02: as it was")
+    s.call("program", [0, 0x440, 0x1C0], "rules: as it was")
     s.load()
     for at, size, until, why in [
             (0x440, 0x1C1, None, "a byte over the table's start"), (0x51D, 0, 0x600, "a byte over the table's start"),
@@ -1372,19 +1370,19 @@ def before_table(s):
             (0x500, 0x300, None, "around the table"), (0x100, 0, None, "in the header")]:
         s.load()
         put_program(s, at, (0, size), until=until)
-        s.look("open", paper=14, why=why, of="02")
-        s.look("program", paper=14, why=why, of="02")
-        s.edit("move", 1, 0x1000, paper=14, why=why, of="02")
+        s.look("open", rules=14, why=why, differs=False)
+        s.look("program", rules=14, why=why, differs=False)
+        s.edit("move", 1, 0x1000, rules=14, why=why, differs=False)
     for at, why in [(0x600, "at the table's start"), (0x619, "a byte over the table's end")]:
         s.load()
         s.fill(0x61A, 0xE4, b"\0")
         s.patch(0x420, word(at))
-        s.look("open", paper=14, why=why, of="02")
-        s.edit("rewrite", paper=14, why=why, of="02")
+        s.look("open", rules=14, why=why, differs=False)
+        s.edit("rewrite", rules=14, why=why, differs=False)
     s.load()
     put_program(s, 0x61A)
     s.program(0x61A, 0xE4, "from the table's end on")
-    s.look("totals", paper=[0, 0x2000, 0x61A + 0x100 + 0xE4], why=BEHIND, of="02")
+    s.look("totals", rules=[0, 0x2000, 0x61A + 0x100 + 0xE4], why=BEHIND, differs=False)
 
 
 A_AT_800 = directory(0, 0, 2) + file(0, 0x800, 0x100) + b"a\0"
@@ -1397,40 +1395,40 @@ def behind_table(s):
     s.lend(0x10, 0x1000, 6)
     s.program(0x1000, 0x123, "as long as its file size")
     used = 0x45A + 0x100 + 0x123
-    s.look("open", paper=[0, 0x440, 0x1A, 0x2000, 2, used], why=BEHIND, of="02")
-    s.look("totals", paper=[0, 0x2000, used], why=BEHIND, of="02")
+    s.look("open", rules=[0, 0x440, 0x1A, 0x2000, 2, used], why=BEHIND, differs=False)
+    s.look("totals", rules=[0, 0x2000, used], why=BEHIND, differs=False)
     s.free_regions()
     s.lend(0x10, 0x1000, 5)
-    s.look("free_regions", paper=9, why="three regions of two entries: a list that is a word short", of="02")
+    s.look("free_regions", rules=9, why="three regions of two entries: a list that is a word short", differs=False)
     s.lend(0x10, 0x1000, 9)
     s.clusters([(0x3A6, 0, 0), (0x700, 0, 0), (0xEDD, 0, 0)], "three regions of two entries")
     s.lend(0x10, 0x1000, 8)
     s.clusters(9, "a list that is a word short")
     s.lend(0xF, 0x1000)
-    s.look("open", paper=9, why="one working word too few", of="02")
+    s.look("open", rules=9, why="one working word too few", differs=False)
     s.lend(0x10, 0x1000)
     s.dol_window()
     s.read(0x123, note="all of the window")
     listing = b"total 8192 used 1661\nd 0 0 2 /\nf 1 2048 256 /a\nr 1114 934\nr 2304 1792\nr 4387 3805\n"
-    s.text("report", 0x80, paper=listing, why=BEHIND, of="02")
-    s.look("max_file_size", 1, paper=[0, 0x800], why="up to the program", of="02")
+    s.text("report", 0x80, rules=listing, why=BEHIND)
+    s.look("max_file_size", 1, rules=[0, 0x800], why="up to the program", differs=False)
     for offset, size, most, why in [
             (0x900, 1, 0x700, "a free region that ends at the program"), (0x901, 1, 0x6FF, "inside it"), (0xFFF, 1, 1, "its last byte"),
             (0x1000, 0x123, 0x1000, "the program's own place, with what is free behind it"), (0x1000, 0x122, 0x122, "a byte less"),
             (0x1122, 1, 0xEDE, "its last byte, with what is free behind it"), (0x1123, 1, 0xEDD, "the free region behind it")]:
-        s.look("max_region_size", offset, size, paper=[0, most], why=why, of="02")
-    for size, align, paper, why in [
+        s.look("max_region_size", offset, size, rules=[0, most], why=why, differs=False)
+    for size, align, rules, why in [
             (0x100, 0x100, [0, 0x1200, 0xE00], "the largest rest is behind the program"), (0xE00, 0x100, [0, 0x1200, 0xE00], "all of it"),
             (0xE01, 0x100, 21, "a byte more"), (0xEDD, 1, [0, 0x1123, 0xEDD], "from its end on"), (0xEDE, 1, 21, "a byte more")]:
-        s.look("allocate", size, align, paper=paper, why=why, of="02")
+        s.look("allocate", size, align, rules=rules, why=why, differs=False)
     for to, why in [(0xF01, "a byte over its start"), (0x1000, "its place"), (0x1010, "inside it"), (0x1122, "a byte over its end")]:
-        s.edit("move", 1, to, paper=21, why=why, of="02")
-    s.edit("move", 1, 0xF00, paper="ok", why="right before it", image=moved(s, 0x800, 0xF00, 0x100), of="02")
-    s.edit("move", 1, 0x1123, paper="ok", why="right behind it", image=moved(s, 0xF00, 0x1123, 0x100), of="02")
+        s.edit("move", 1, to, rules=21, why=why, differs=False)
+    s.edit("move", 1, 0xF00, rules="ok", why="right before it", image=moved(s, 0x800, 0xF00, 0x100), differs=False)
+    s.edit("move", 1, 0x1123, rules="ok", why="right behind it", image=moved(s, 0xF00, 0x1123, 0x100), differs=False)
     s.load()
-    s.edit("resize", 1, 0x801, paper=21, why="a byte into it, and no free multiple of 0x8000", of="02")
-    s.edit("resize", 1, 0x800, paper="ok", why="up to it", image=patched(s, (0x454, word(0x800))), of="02")
-    s.edit("resize", 1, 0x801, paper=21, why="a byte more", of="02")
+    s.edit("resize", 1, 0x801, rules=21, why="a byte into it, and no free multiple of 0x8000", differs=False)
+    s.edit("resize", 1, 0x800, rules="ok", why="up to it", image=patched(s, (0x454, word(0x800))), differs=False)
+    s.edit("resize", 1, 0x801, rules=21, why="a byte more", differs=False)
     s.free_regions()
     s.program(0x1000, 0x123, "as it was")
     for at, size, why in [(0x71C, 0, "it ends where the file begins"), (0x900, 0, "it begins where the file ends"),
@@ -1438,25 +1436,25 @@ def behind_table(s):
         s.load()
         put_program(s, at, (0, size))
         s.program(at, max(size, 0xE4), why)
-        s.look("totals", paper=[0, 0x2000, 0x45A + 0x100 + max(size, 0xE4)], why=BEHIND, of="02")
+        s.look("totals", rules=[0, 0x2000, 0x45A + 0x100 + max(size, 0xE4)], why=BEHIND, differs=False)
         s.free_regions()
     for at, size, why in [(0x71D, 0, "a byte over the file's start"), (0x8FF, 0, "a byte over the file's end"), (0x80F, 0, "in the file"),
                           (0x700, 0x300, "around the file"), (0x45A, 0x3A7, "a byte over the file's start"), (0x900, 0x1701, "a byte past the disc end")]:
         s.load()
         put_program(s, at, (0, size))
-        s.look("open", paper=14, why=why, of="02")
-        s.edit("rewrite", paper=14, why=why, of="02")
+        s.look("open", rules=14, why=why, differs=False)
+        s.edit("rewrite", rules=14, why=why, differs=False)
     new_image(s, "three clusters, the program in the second: a file that has to move finds a place beside it", 0x18000,
               directory(0, 0, 3) + file(0, 0x1000, 0x100) + file(2, 0x1100, 0x10) + b"a\0b\0", files=[(0x1000, 0x100), (0x1100, 0x10)])
     put_program(s, 0x9000, (0, 0x800))
     s.save()
     s.lend(0x14, 0x28)
     s.clusters([(0xB98, 0, 0), (0x6EF0, 0, 0x1000), (0x6800, 1, 0)], "0x1110 to the program, and behind it to the disc end")
-    s.look("allocate", 0x101, 0x8000, paper=[0, 0x10000, 0x8000], why="the larger rest is behind the program", of="02")
+    s.look("allocate", 0x101, 0x8000, rules=[0, 0x10000, 0x8000], why="the larger rest is behind the program", differs=False)
     grown = patched(s, (0x10000, b"\xA1\x5A" * 0x80), (0x1000, bytes(0x100)), (0x450, word(0x10000)), (0x454, word(0x101)))
-    s.edit("resize", 1, 0x101, paper="ok", why="file b is right behind it; the larger rest", image=grown, of="02")
+    s.edit("resize", 1, 0x101, rules="ok", why="file b is right behind it; the larger rest", image=grown, differs=False)
     s.load()
-    s.edit("resize", 1, 0x8001, paper=21, why="a byte more than the larger rest has", of="02")
+    s.edit("resize", 1, 0x8001, rules=21, why="a byte more than the larger rest has", differs=False)
 
 
 def abutting(s):
@@ -1469,18 +1467,18 @@ def abutting(s):
         s.save()
         s.heading(f"{room} bytes between them; an entry with a name of one byte takes 14")
         for name in ("insert_file", "insert_directory", "make_directories"):
-            s.edit(name, 0, b"bb", paper=21, why="15 bytes more", of="02")
+            s.edit(name, 0, b"bb", rules=21, why="15 bytes more", differs=False)
         if room < 14:
             for name in ("insert_file", "insert_directory", "make_directories"):
-                s.edit(name, 0, b"b", paper=21, why="14 bytes more", of="02")
+                s.edit(name, 0, b"b", rules=21, why="14 bytes more", differs=False)
         else:
             grown = patched(s, (0x428, word(0x28)), (0x440, longer))
-            s.edit("insert_file", 0, b"b", paper="ok 2", why="14 bytes more", image=grown, of="02")
-            s.edit("insert_file", 0, b"c", paper=21, why="now they abut", of="02")
+            s.edit("insert_file", 0, b"b", rules="ok 2", why="14 bytes more", image=grown, differs=False)
+            s.edit("insert_file", 0, b"c", rules=21, why="now they abut", differs=False)
             s.load()
-        s.edit("make_directories", 0, b".", paper="ok 0", why="a table of the same size", of="02")
-        s.edit("rewrite", paper="ok", why="a table of the same size", of="02")
-        s.edit("move", 1, 0x900, paper="ok", why="a table of the same size", image=moved(s, 0x800, 0x900, 0x100), of="02")
+        s.edit("make_directories", 0, b".", rules="ok 0", why="a table of the same size", differs=False)
+        s.edit("rewrite", rules="ok", why="a table of the same size", differs=False)
+        s.edit("move", 1, 0x900, rules="ok", why="a table of the same size", image=moved(s, 0x800, 0x900, 0x100), differs=False)
         s.load()
     table = directory(0, 0, 3) + file(0, 0x800, 0x10) + file(0, 0x900, 0x10) + b"a\0"
     new_image(s, "two files share a text: the table ends at 0x466, and at 0x468 when it is written", 0x2000, table, files=[(0x800, 0x10), (0x900, 0x10)])
@@ -1489,16 +1487,16 @@ def abutting(s):
         put_program(s, at)
         s.heading(f"the program at {at:#x}")
         for name, arguments in [("rewrite", ()), ("move", (1, 0xA00)), ("resize", (1, 8)), ("resize", (1, 0x11)), ("make_directories", (0, b""))]:
-            s.edit(name, *arguments, paper=21, why="two bytes more", of="02")
-        s.edit("resize", 1, 0x10, paper="ok", why="the present size writes no table", of="02")
-        s.edit("move", 1, 0x808, paper=20, why="before the table's place", of="02")
+            s.edit(name, *arguments, rules=21, why="two bytes more", differs=False)
+        s.edit("resize", 1, 0x10, rules="ok", why="the present size writes no table", differs=False)
+        s.edit("move", 1, 0x808, rules=20, why="before the table's place", differs=False)
         s.lend(0x14, 0x27)
-        s.edit("rewrite", paper=9, why="one working byte too few, before the table's place", of="02")
+        s.edit("rewrite", rules=9, why="one working byte too few, before the table's place", differs=False)
         s.lend(0x20, 0x100)
     s.load()
     put_program(s, 0x468)
     written = directory(0, 0, 3) + file(0, 0x800, 0x10) + file(2, 0x900, 0x10) + b"a\0a\0"
-    s.edit("rewrite", paper="ok", why="two bytes more, right before the program", image=patched(s, (0x428, word(0x28)), (0x440, written)), of="02")
+    s.edit("rewrite", rules="ok", why="two bytes more, right before the program", image=patched(s, (0x428, word(0x28)), (0x440, written)), differs=False)
     s.program(0x468, 0xE4, "as it was")
 
 
@@ -1519,10 +1517,10 @@ def unread(s):
         s.load()
         change()
         for name in ("open", "program", "free_regions", "open_dol"):
-            s.look(name, paper=number, why=why, of="02")
+            s.look(name, rules=number, why=why, differs=False)
         s.clusters(number, why)
-        s.edit("move", 1, 0x600, paper=number, why=why, of="02")
-        s.edit("insert_file", 0, b"b", paper=number, why=why, of="02")
+        s.edit("move", 1, 0x600, rules=number, why=why, differs=False)
+        s.edit("insert_file", 0, b"b", rules=number, why=why, differs=False)
     for program, why in [(lambda: s.patch(0x420, word(0x201D)), past), (lambda: put_program(s, 0x1000, (0xFFFFFFFF, 1)), "a sum of 2^32")]:
         for number, note, change in [
                 (4, "image of 0x1fff bytes", lambda: s.size(0x1FFF)), (5, "FST size 23", lambda: s.patch(0x428, word(23))),
@@ -1533,11 +1531,11 @@ def unread(s):
             s.load()
             program()
             change()
-            s.look("open", paper=number, why=f"{note}, and {why}", of="02")
+            s.look("open", rules=number, why=f"{note}, and {why}", differs=False)
         s.load()
         program()
         s.lend(0xF, 0)
-        s.look("open", paper=9, why=f"one working word too few, and {why}", of="02")
+        s.look("open", rules=9, why=f"one working word too few, and {why}", differs=False)
         s.lend(0x10, 0x1000)
 
 
@@ -1546,12 +1544,12 @@ def unread(s):
 
 # ---- fills
 
-LONG = "a clip above 2^32 - 1 bytes finds no place; the Rust panics"
+LONG = "a clip of more than 32 bits' length; the Rust panics"
 
 
 def filled(s):
     s.lend(0x1000, 0x1000)
-    new_image(s, "small master of document 01: its file filled", 0x2000, A_AT_500, free=False)
+    new_image(s, "the small master: its file filled", 0x2000, A_AT_500, free=False)
     s.edit("replace", 1, Clip(0x100), note="its own size")
     s.peek(0x4FE, 0x10)
     s.edit("replace", 1, Clip(0x100, b"\0"), note="other bytes in their place")
@@ -1577,8 +1575,8 @@ def filled(s):
         s.edit("replace_zeros", 0, length)
         s.edit("replace_zeros", 2, length)
     for length in (0x100000000, 0x100000100, 0x100001B00, 0x1FFFFFFFF, 0x200000000):
-        s.edit("replace_zeros", 1, length, paper=21, why=LONG, of="02")
-        s.edit("replace_zeros", 0, length, paper=16, why="before the clip's 21; the Rust panics", of="02")
+        s.edit("replace_zeros", 1, length, rules=21, why=LONG, differs=False)
+        s.edit("replace_zeros", 0, length, rules=16, why="before the clip's 21; the Rust panics", differs=False)
         s.edit("replace_zeros", 9, length)
     s.edit("rewrite", note="nothing was written")
 
@@ -1591,19 +1589,19 @@ def memory_of_fills(s):
     s.load()
     s.lend(0x10, 0x19)
     for length in (0, 1, 0xFF, 0x101, 0x1B00):
-        s.edit("replace", 1, Clip(length), paper=9, why=few)
+        s.edit("replace", 1, Clip(length), rules=9, why=few)
     s.edit("replace", 1, Clip(0x100), note="its own size: no working bytes")
     s.lend(0x10, 0)
     s.edit("replace", 1, Clip(0x100, b"\x77"), note="its own size: no working bytes")
     s.edit("replace", 1, Clip(0x1B01), note="21 before memory")
-    s.edit("replace_zeros", 1, 0x100000000, paper=21, why=LONG, of="02")
+    s.edit("replace_zeros", 1, 0x100000000, rules=21, why=LONG, differs=False)
     s.edit("replace", 2, b"")
     s.edit("replace", 0, b"")
-    s.edit("replace", 1, b"", paper=9, why="no working byte")
+    s.edit("replace", 1, b"", rules=9, why="no working byte")
     s.lend(0xF, 0x1A)
-    s.edit("replace", 1, Clip(0x100), paper=9, why=short + ", even for its own size")
-    s.edit("replace", 7, b"", paper=9, why=short + ", before 15")
-    s.edit("replace_zeros", 1, 0x100000000, paper=9, why=short + ", before the clip's 21")
+    s.edit("replace", 1, Clip(0x100), rules=9, why=short + ", even for its own size")
+    s.edit("replace", 7, b"", rules=9, why=short + ", before 15")
+    s.edit("replace_zeros", 1, 0x100000000, rules=9, why=short + ", before the clip's 21")
     s.lend(0x1000, 0x1000)
 
 
@@ -1639,14 +1637,14 @@ def fills_elsewhere(s):
 def fills_and_the_table(s):
     table = directory(0, 0, 4) + file(0, 0x500, 0x10) + file(0, 0x472, 0) + file(0, 0x474, 0) + b"a\0"
     new_image(s, "three files share a text, two of them empty and near the table's end", 0x2000, table, files=[(0x500, 0x10)])
-    s.edit("replace", 2, b"1", paper=21, why=GROWN)
-    s.edit("replace", 3, Clip(0x80), paper=21, why=GROWN)
+    s.edit("replace", 2, b"1", rules=21, why=GROWN)
+    s.edit("replace", 3, Clip(0x80), rules=21, why=GROWN)
     s.edit("replace", 2, b"", note="its own size writes no table")
     s.edit("replace", 1, Clip(0x11))
     s.edit("replace", 2, b"1", note="in the table now: no place but another")
     table = directory(0, 0, 4) + file(0, 0x500, 0x100) + file(0, 0x474, 2) + file(0, 0x600, 2) + b"a\0"
     new_image(s, "a file right behind the table: no table can be written", 0x9000, table, files=[(0x500, 0x100), (0x474, 2), (0x600, 2)])
-    s.edit("replace", 1, Clip(0x101), paper=21, why=HALF)
+    s.edit("replace", 1, Clip(0x101), rules=21, why=HALF)
     s.edit("replace", 1, Clip(0xFF))
     s.edit("replace", 1, b"")
     s.edit("replace", 1, Clip(0x100), note="its own size writes no table")
@@ -1664,9 +1662,9 @@ def fills_of_unopened(s):
         s.load()
         s.heading(text)
         change()
-        s.edit("replace", 1, Clip(0x100), paper=number, why=why)
-        s.edit("replace", 9, b"", paper=number, why=why)
-        s.edit("replace_zeros", 0, 0x200000000, paper=number, why=why)
+        s.edit("replace", 1, Clip(0x100), rules=number, why=why)
+        s.edit("replace", 9, b"", rules=number, why=why)
+        s.edit("replace_zeros", 0, 0x200000000, rules=number, why=why)
 
 
 def fills_beside_the_program(s):
@@ -1678,9 +1676,9 @@ def fills_beside_the_program(s):
     def image(at, clip, *more):
         return patched(s, (at, clip.bytes()), *more)
     s.edit("replace", 1, Clip(0x100), note="its own size")
-    s.edit("replace", 1, Clip(0x801), paper=21, why="a byte into the program, and no free multiple of 0x8000", of="02")
-    s.edit("replace", 1, Clip(0x800), paper="ok", why="up to the program", image=image(0x800, Clip(0x800), (0x454, word(0x800))), of="02")
-    s.edit("replace", 1, Clip(0x801), paper=21, why="a byte more", of="02")
+    s.edit("replace", 1, Clip(0x801), rules=21, why="a byte into the program, and no free multiple of 0x8000", differs=False)
+    s.edit("replace", 1, Clip(0x800), rules="ok", why="up to the program", image=image(0x800, Clip(0x800), (0x454, word(0x800))), differs=False)
+    s.edit("replace", 1, Clip(0x801), rules=21, why="a byte more", differs=False)
     s.program(0x1000, 0x123, "as it was")
     s.free_regions()
     new_image(s, "three clusters, the program in the second: a file that has to move finds a place beside it", 0x18000,
@@ -1690,26 +1688,26 @@ def fills_beside_the_program(s):
     s.lend(0x14, 0x28)
     for length, why in [(0x101, "file b is right behind it; the larger rest"), (0x8000, "exactly fits there")]:
         moved_ = image(0x10000, Clip(length), (0x1000, bytes(0x100)), (0x450, word(0x10000)), (0x454, word(length)))
-        s.edit("replace", 1, Clip(length), paper="ok", why=why, image=moved_, of="02")
+        s.edit("replace", 1, Clip(length), rules="ok", why=why, image=moved_, differs=False)
         s.load()
-    s.edit("replace", 1, Clip(0x8001), paper=21, why="a byte more than the larger rest has", of="02")
+    s.edit("replace", 1, Clip(0x8001), rules=21, why="a byte more than the larger rest has", differs=False)
     s.lend(0x14, 0x27)
-    s.edit("replace", 1, Clip(0x101), paper=9, why="one working byte too few", of="02")
-    s.edit("replace", 1, Clip(0x8001), paper=21, why="before memory", of="02")
+    s.edit("replace", 1, Clip(0x101), rules=9, why="one working byte too few", differs=False)
+    s.edit("replace", 1, Clip(0x8001), rules=21, why="before memory", differs=False)
     s.lend(0x1000, 0x1000)
 
 
 # ---- records: used bytes, the largest free region, accepted edits
 
 MOST = 0xFFFFFFFF
-COUNT = "the edit count would leave 0 to 2^32 - 1"
+COUNT = "the edit count would pass 2^32 - 1"
 BELOW = "used bytes would be below 0"
 ABOVE = "used bytes would be above 2^32 - 1"
 
 
 def records_of_edits(s):
     s.lend(0x40, 0x100)
-    new_image(s, "small master of document 01: a record is made of it, goes into an edit and comes back", 0x2000, A_AT_500, free=False)
+    new_image(s, "the small master: a record is made of it, and handed to an edit", 0x2000, A_AT_500, free=False)
     for name, arguments, record in [
             ("resize", (1, 756), (1870, 6156, 1)), ("resize", (1, 0x100), (1370, 6656, 1)), ("resize", (1, 0), (1114, 7078, 1)),
             ("resize", (1, 0x1B00), (8026, 166, 1)), ("move", (1, 0x600), (1370, 6400, 1)), ("rewrite", (), (1370, 6656, 1)),
@@ -1718,12 +1716,12 @@ def records_of_edits(s):
             ("replace", (1, b"clip"), (1118, 6908, 1)), ("replace", (1, Clip(0x100)), (1370, 6656, 1)), ("replace_zeros", (1, 756), (1870, 6156, 1))]:
         s.load()
         s.make_record(1370, 6656, "0x45a bytes up to the table's end, and 0x100 of a")
-        s.edit(name, *arguments, note="02's record", record=record)
+        s.edit(name, *arguments, note="the record by the rules", record=record)
     s.load()
     s.make_record(1370, 6656, "as above")
     for name, arguments in [("move", (1, 0x580)), ("move", (1, 0x400)), ("resize", (1, 0x1B01)), ("resize", (0, 0)), ("replace", (2, b"")),
                             ("insert_file", (0, b"a")), ("insert_directory", (1, b"b")), ("make_directories", (0, b".."))]:
-        s.edit(name, *arguments, note="a refused edit hands the record back unaltered")
+        s.edit(name, *arguments, note="a refused edit leaves the record")
     s.record()
     s.edit("resize", 1, 756, note="none is in use")
 
@@ -1738,38 +1736,38 @@ def records_made(s):
                                  (24, "a header that passes the image", lambda: s.patch(0x420, word(0x1F1D)))]:
         s.load()
         change()
-        s.look("make_record", paper=number, why=note, of="02")
-        s.edit("rewrite", paper=number, why="the record stays", of="02")
+        s.look("make_record", rules=number, why=note, differs=False)
+        s.edit("rewrite", rules=number, why="the record stays", differs=False)
     s.load()
     s.lend(0xF, 0)
-    s.look("make_record", paper=9, why="one working word too few", of="02")
-    s.edit("resize", 1, 0x100, paper=9, why="one working word too few", of="02")
+    s.look("make_record", rules=9, why="one working word too few", differs=False)
+    s.edit("resize", 1, 0x100, rules=9, why="one working word too few", differs=False)
     s.lend(0x10, 0)
     s.make_record(1370, 6656, "no working byte is wanted")
     s.load()
-    s.edit("resize", 1, 0x100, note="02's record; load leaves it", record=(1370, 6656, 1))
+    s.edit("resize", 1, 0x100, note="the record by the rules; load leaves it", record=(1370, 6656, 1))
     s.record()
     s.lend(0x40, 0x100)
     new_image(s, "no free region", 0x600, directory(0, 0, 2) + file(0, 0x45A, 0x1A6) + b"a\0", free=False)
     s.make_record(0x600, 0, "all of the disc; 0 if none")
-    s.edit("rewrite", note="02's record", record=(0x600, 0, 1))
-    s.edit("resize", 1, 0x1A5, note="02's record", record=(0x5FF, 1, 2))
-    s.edit("resize", 1, 0, note="02's record", record=(0x45A, 0x1A6, 3))
+    s.edit("rewrite", note="the record by the rules", record=(0x600, 0, 1))
+    s.edit("resize", 1, 0x1A5, note="the record by the rules", record=(0x5FF, 1, 2))
+    s.edit("resize", 1, 0, note="the record by the rules", record=(0x45A, 0x1A6, 3))
     s.record()
     new_image(s, "a root alone", 0x600, directory(0, 0, 1), free=False)
     s.make_record(0x44C, 0x1B4, "up to the table's end")
-    s.edit("insert_file", 0, b"a", note="02's record", record=(0x45A, 0x1A6, 1))
+    s.edit("insert_file", 0, b"a", note="the record by the rules", record=(0x45A, 0x1A6, 1))
     s.record()
     new_image(s, "a byte more than a can grow: it goes to 0x8000, and its old place is free", 0x9000,
               directory(0, 0, 3) + file(0, 0x500, 0x100) + file(2, 0x600, 0x10) + b"a\0b\0")
     s.make_record(1400, 35312, "1,128 bytes up to the table's end, 256 and 16")
-    s.edit("resize", 1, 0x101, note="02's record", record=(1401, 31216, 1))
+    s.edit("resize", 1, 0x101, note="the record by the rules", record=(1401, 31216, 1))
     s.record()
     new_image(s, "a program of 0x123 bytes at 0x1000, behind the table", 0x2000, A_AT_800, files=[(0x800, 0x100)])
     put_program(s, 0x1000, (0x100, 0x23))
     s.make_record(1661, 3805, BEHIND)
-    s.edit("move", 1, 0x1123, paper="ok", why="right behind the program", image=moved(s, 0x800, 0x1123, 0x100), of="02", record=(1661, 3549, 1))
-    s.edit("move", 1, 0xF01, paper=21, why="a byte over the program", of="02")
+    s.edit("move", 1, 0x1123, rules="ok", why="right behind the program", image=moved(s, 0x800, 0x1123, 0x100), differs=False, record=(1661, 3549, 1))
+    s.edit("move", 1, 0xF01, rules=21, why="a byte over the program", differs=False)
     s.record()
 
 
@@ -1777,18 +1775,18 @@ def records_handed_on(s):
     s.lend(0x40, 0x100)
     new_image(s, "small master: one record goes through a list of edits", 0x2000, A_AT_500, free=False)
     s.make_record(1370, 6656, "at opening")
-    s.edit("insert_directory", 0, b"d", note="02's record", record=(1384, 6656, 1))
-    s.edit("insert_file", 2, b"f", note="02's record", record=(1398, 6656, 2))
-    s.edit("make_directories", 0, b"d/e", note="02's record", record=(1412, 6656, 3))
+    s.edit("insert_directory", 0, b"d", note="the record by the rules", record=(1384, 6656, 1))
+    s.edit("insert_file", 2, b"f", note="the record by the rules", record=(1398, 6656, 2))
+    s.edit("make_directories", 0, b"d/e", note="the record by the rules", record=(1412, 6656, 3))
     s.edit("insert_file", 0, b"d")
-    s.edit("move", 1, 0x1F00, note="02's record", record=(1412, 6780, 4))
+    s.edit("move", 1, 0x1F00, note="the record by the rules", record=(1412, 6780, 4))
     s.edit("resize", 1, 0x101)
-    s.edit("resize", 1, 0x80, note="02's record", record=(1284, 6780, 5))
+    s.edit("resize", 1, 0x80, note="the record by the rules", record=(1284, 6780, 5))
     s.edit("replace", 3, b"x")
-    s.edit("move", 3, 0x1000, note="02's record; an empty file", record=(1284, 6780, 6))
-    s.edit("replace", 3, Clip(0x10), note="02's record", record=(1300, 3824, 7))
-    s.edit("rewrite", note="02's record", record=(1300, 3824, 8))
-    s.edit("resize", 1, 0x80, note="02's record; the present size", record=(1300, 3824, 9))
+    s.edit("move", 3, 0x1000, note="the record by the rules; an empty file", record=(1284, 6780, 6))
+    s.edit("replace", 3, Clip(0x10), note="the record by the rules", record=(1300, 3824, 7))
+    s.edit("rewrite", note="the record by the rules", record=(1300, 3824, 8))
+    s.edit("resize", 1, 0x80, note="the record by the rules; the present size", record=(1300, 3824, 9))
     s.look("totals")
     s.look("free_regions")
     s.make_record(1300, 3824, "worked out afresh")
@@ -1799,11 +1797,11 @@ def records_that_hold_anything(s):
     s.lend(0x40, 0x100)
     new_image(s, "small master: the count, which goes up to 2^32 - 1", 0x2000, A_AT_500, free=False)
     s.record(1370, 6656, MOST - 1)
-    s.edit("rewrite", note="02's record", record=(1370, 6656, MOST))
+    s.edit("rewrite", note="the record by the rules", record=(1370, 6656, MOST))
     for name, arguments in [("rewrite", ()), ("resize", (1, 0x100)), ("resize", (1, 0)), ("move", (1, 0x600)), ("insert_file", (0, b"b")),
                             ("insert_directory", (0, b"b")), ("make_directories", (0, b"")), ("make_directories", (0, b"b")),
                             ("replace", (1, Clip(0x100))), ("replace", (1, b"")), ("replace_zeros", (1, 0x101))]:
-        s.edit(name, *arguments, paper=25, why=COUNT, of="02", differs=True)
+        s.edit(name, *arguments, rules=25, why=COUNT)
     s.heading("used bytes: from 0 to 2^32 - 1, whatever the image is")
     for used, name, arguments, record in [
             (0, "resize", (1, 0xFF), None), (1, "resize", (1, 0xFF), (0, 6657, 1)), (255, "replace", (1, b""), None), (256, "replace", (1, b""), (0, 7078, 1)),
@@ -1815,25 +1813,25 @@ def records_that_hold_anything(s):
         s.load()
         s.record(used, MOST, 0)
         if record:
-            s.edit(name, *arguments, note="02's record", record=record)
+            s.edit(name, *arguments, note="the record by the rules", record=record)
         else:
-            s.edit(name, *arguments, paper=25, why=ABOVE if used > 256 else BELOW, of="02", differs=True)
+            s.edit(name, *arguments, rules=25, why=ABOVE if used > 256 else BELOW)
     s.load()
     s.patch(0x428, word(0x20))
     s.save()
     s.heading("six bytes of slack behind the texts: a table that is written gives them back")
     s.make_record(1376, 6656, "0x460 bytes up to the table's end, and 0x100 of a")
-    s.edit("resize", 1, 0x100, note="02's record; no table is written", record=(1376, 6656, 1))
-    s.edit("move", 1, 0x600, note="02's record", record=(1370, 6400, 2))
+    s.edit("resize", 1, 0x100, note="the record by the rules; no table is written", record=(1376, 6656, 1))
+    s.edit("move", 1, 0x600, note="the record by the rules", record=(1370, 6400, 2))
     for used, name, arguments, record in [(5, "rewrite", (), None), (6, "rewrite", (), (0, 6656, 1)), (5, "move", (1, 0x600), None),
                                           (6, "move", (1, 0x600), (0, 6400, 1)), (0, "resize", (1, 0x106), (0, 6650, 1)), (0, "resize", (1, 0x105), None),
                                           (MOST, "resize", (1, 0x106), (MOST, 6650, 1)), (MOST, "resize", (1, 0x107), None)]:
         s.load()
         s.record(used, 7, 0)
         if record:
-            s.edit(name, *arguments, note="02's record", record=record)
+            s.edit(name, *arguments, note="the record by the rules", record=record)
         else:
-            s.edit(name, *arguments, paper=25, why=ABOVE if used > 256 else BELOW, of="02", differs=True)
+            s.edit(name, *arguments, rules=25, why=ABOVE if used > 256 else BELOW)
     s.record()
 
 
@@ -1845,16 +1843,16 @@ def records_last(s):
                             ("insert_file", (0, b"a")), ("insert_file", (1, b"b")), ("insert_file", (0, b"..")), ("make_directories", (0, b"..")),
                             ("make_directories", (0, b"a")), ("replace", (0, b"")), ("replace_zeros", (1, MOST))]:
         s.edit(name, *arguments)
-    s.edit("replace_zeros", 1, MOST + 1, paper=21, why=LONG, of="02")
-    s.edit("insert_file", 0, b"\x01", paper=12, why=BYTES)
-    s.edit("insert_file", 0, b"b", paper=9, why="four working words too few")
-    s.edit("rewrite", paper=25, why=COUNT, of="02", differs=True)
+    s.edit("replace_zeros", 1, MOST + 1, rules=21, why=LONG, differs=False)
+    s.edit("insert_file", 0, b"\x01", rules=12, why=BYTES)
+    s.edit("insert_file", 0, b"b", rules=9, why="four working words too few")
+    s.edit("rewrite", rules=25, why=COUNT)
     s.lend(0x10, 0x19)
-    s.edit("rewrite", paper=9, why="one working byte too few")
-    s.edit("resize", 1, 0x101, paper=9, why="one working byte too few")
+    s.edit("rewrite", rules=9, why="one working byte too few")
+    s.edit("resize", 1, 0x101, rules=9, why="one working byte too few")
     s.lend(0x10, 0)
-    s.edit("resize", 1, 0x100, paper=25, why=COUNT, of="02", differs=True)
-    s.edit("replace", 1, Clip(0x100), paper=25, why=COUNT, of="02", differs=True)
+    s.edit("resize", 1, 0x100, rules=25, why=COUNT)
+    s.edit("replace", 1, Clip(0x100), rules=25, why=COUNT)
     s.lend(0x40, 0x100)
     s.record()
     table = directory(0, 0, 3) + file(0, 0x466, 0x10) + file(0, 0x600, 0x10) + b"a\0"
@@ -1867,10 +1865,10 @@ def records_last(s):
         s.edit("insert_directory", 0, b"b")
         s.edit("resize", 2, 0x11)
         s.edit("resize", 2, 0xF)
-        s.edit("move", 2, 0x700, paper=21, why=HALF)
-    s.edit("resize", 2, 0x10, paper=25, why=COUNT, of="02", differs=True)
+        s.edit("move", 2, 0x700, rules=21, why=HALF)
+    s.edit("resize", 2, 0x10, rules=25, why=COUNT)
     s.record(5, 6, 7)
-    s.edit("resize", 2, 0x10, note="02's record", record=(5, 6640, 8))
+    s.edit("resize", 2, 0x10, note="the record by the rules", record=(5, 6640, 8))
     s.record()
 
 
@@ -1885,7 +1883,7 @@ def state(s, maximum):
 
 def above(s, name, *arguments, why=STATED):
     """An edit whose table is above the maximum, which the Rust does not look at: it says something else."""
-    s.edit(name, *arguments, paper=26, why=why, of="02", differs=True)
+    s.edit(name, *arguments, rules=26, why=why)
 
 
 # Each edit that writes a table of the small master, how long that is, and the record that it makes of one of the image.
@@ -1901,7 +1899,7 @@ KEEPS = [("resize", (1, 0x100)), ("replace", (1, Clip(0x100))), ("replace_zeros"
 
 def maxima_of_the_small_master(s):
     s.lend(0x40, 0x100)
-    new_image(s, "small master of document 01, with a table of 0x1a bytes", 0x2000, A_AT_500, free=False)
+    new_image(s, "the small master, with a table of 0x1a bytes", 0x2000, A_AT_500, free=False)
     s.heading("FST maximum 0x1a")
     state(s, 0x1A)
     s.look("open")
@@ -1939,12 +1937,12 @@ def maxima_around_the_new_table(s):
             if maximum < size:
                 above(s, name, *arguments)
             else:
-                s.edit(name, *arguments, note="02's record", record=record)
+                s.edit(name, *arguments, note="the record by the rules", record=record)
                 s.peek(0x424, 0xC)
     for name, arguments in KEEPS:
         state(s, 1)
         s.make_record(1370, 6656, "whatever the maximum is")
-        s.edit(name, *arguments, note="02's record; no table is written", record=(1370, 6656, 1))
+        s.edit(name, *arguments, note="the record by the rules; no table is written", record=(1370, 6656, 1))
     s.record()
 
 
@@ -1993,19 +1991,19 @@ def maxima_of_lists(s):
     new_image(s, "small master, FST maximum 0x36: a list of edits, with a record", 0x2000, A_AT_500, free=False)
     state(s, 0x36)
     s.make_record(1370, 6656, "at opening")
-    s.edit("insert_directory", 0, b"d", note="02's record", record=(1384, 6656, 1))
+    s.edit("insert_directory", 0, b"d", note="the record by the rules", record=(1384, 6656, 1))
     above(s, "make_directories", 0, b"d/e/f")
     above(s, "insert_file", 2, b"ff")
-    s.edit("insert_file", 2, b"f", note="02's record; exactly as long", record=(1398, 6656, 2))
+    s.edit("insert_file", 2, b"f", note="the record by the rules; exactly as long", record=(1398, 6656, 2))
     above(s, "make_directories", 0, b"d/e")
     above(s, "insert_file", 0, b"e")
-    s.edit("make_directories", 0, b"d", note="02's record; all are there", record=(1398, 6656, 3))
+    s.edit("make_directories", 0, b"d", note="the record by the rules; all are there", record=(1398, 6656, 3))
     s.edit("replace", 3, b"x")
-    s.edit("move", 3, 0x1000, note="02's record", record=(1398, 6656, 4))
-    s.edit("replace", 3, Clip(0x10), note="02's record", record=(1414, 4080, 5))
-    s.edit("move", 1, 0x1F00, note="02's record", record=(1414, 3824, 6))
-    s.edit("resize", 1, 0x80, note="02's record", record=(1286, 3824, 7))
-    s.edit("rewrite", note="02's record", record=(1286, 3824, 8))
+    s.edit("move", 3, 0x1000, note="the record by the rules", record=(1398, 6656, 4))
+    s.edit("replace", 3, Clip(0x10), note="the record by the rules", record=(1414, 4080, 5))
+    s.edit("move", 1, 0x1F00, note="the record by the rules", record=(1414, 3824, 6))
+    s.edit("resize", 1, 0x80, note="the record by the rules", record=(1286, 3824, 7))
+    s.edit("rewrite", note="the record by the rules", record=(1286, 3824, 8))
     s.look("open")
     s.peek(0x424, 0xC)
     s.record()
@@ -2021,20 +2019,20 @@ def maxima_and_other_numbers(s):
                             ("make_directories", (0, b"..")), ("make_directories", (0, b"a")), ("make_directories", (0, b"b/:")),
                             ("replace", (0, b"")), ("replace_zeros", (1, MOST))]:
         s.edit(name, *arguments)
-    s.edit("replace_zeros", 1, MOST + 1, paper=21, why=LONG, of="02")
-    s.edit("insert_file", 0, b"\x01", paper=12, why=BYTES)
-    s.edit("make_directories", 0, b"b/\x01", paper=12, why=BYTES)
-    s.edit("make_directories", 0, b"/" * 1025, paper=9, why="a path over 1,024 bytes")
+    s.edit("replace_zeros", 1, MOST + 1, rules=21, why=LONG, differs=False)
+    s.edit("insert_file", 0, b"\x01", rules=12, why=BYTES)
+    s.edit("make_directories", 0, b"b/\x01", rules=12, why=BYTES)
+    s.edit("make_directories", 0, b"/" * 1025, rules=9, why="a path over 1,024 bytes")
     above(s, "insert_file", 0, b"b")
-    s.edit("insert_file", 0, b"bb", paper=9, why="one working byte too few")
-    s.edit("make_directories", 0, b"b/c", paper=9, why="four working words too few")
+    s.edit("insert_file", 0, b"bb", rules=9, why="one working byte too few")
+    s.edit("make_directories", 0, b"b/c", rules=9, why="four working words too few")
     s.lend(0x13, 0x28)
-    s.edit("insert_file", 0, b"b", paper=9, why="one working word too few")
+    s.edit("insert_file", 0, b"b", rules=9, why="one working word too few")
     s.lend(0x10, 0x1A)
     above(s, "rewrite")
     s.lend(0x10, 0x19)
-    s.edit("rewrite", paper=9, why="one working byte too few")
-    s.edit("move", 1, 0x600, paper=9, why="one working byte too few")
+    s.edit("rewrite", rules=9, why="one working byte too few")
+    s.edit("move", 1, 0x600, rules=9, why="one working byte too few")
     s.lend(0x10, 0)
     for name, arguments in KEEPS:
         s.edit(name, *arguments, note="no table is written")
@@ -2047,7 +2045,7 @@ def maxima_and_other_numbers(s):
         s.load()
         s.heading(text)
         change()
-        s.edit("rewrite", paper=number, why=why)
+        s.edit("rewrite", rules=number, why=why)
     s.load()
     s.heading("25 comes behind it")
     for record in [(MOST, 0, MOST), (0, 0, 0), (MOST, 0, 0)]:
@@ -2055,9 +2053,9 @@ def maxima_and_other_numbers(s):
         for name, arguments, _, _ in WRITES:
             above(s, name, *arguments)
     s.record(1370, 6656, MOST)
-    s.edit("resize", 1, 0x100, paper=25, why=COUNT, of="02", differs=True)
+    s.edit("resize", 1, 0x100, rules=25, why=COUNT)
     s.patch(0x42C, word(0x1A))
-    s.edit("rewrite", paper=25, why=COUNT, of="02", differs=True)
+    s.edit("rewrite", rules=25, why=COUNT)
     above(s, "insert_file", 0, b"b")
     s.record()
 
@@ -2078,7 +2076,7 @@ def maxima_and_the_tables_place(s):
         state(s, maximum)
         s.edit("rewrite")
         s.edit("resize", 1, 0)
-        s.edit("move", 2, 0x900, paper=21, why=HALF)
+        s.edit("move", 2, 0x900, rules=21, why=HALF)
     state(s, 0x28)
     above(s, "insert_file", 0, b"b")
     table = directory(0, 0, 3) + file(0, 0x500, 0x100) + file(0, 0x700, 0x10) + b"a\0"
@@ -2089,7 +2087,7 @@ def maxima_and_the_tables_place(s):
             if maximum < 0x28:
                 above(s, "move", 2, at)
             else:
-                s.edit("move", 2, at, paper=21, why=SHARED)
+                s.edit("move", 2, at, rules=21, why=SHARED)
         if maximum < 0x28:
             above(s, "move", 2, 0x468)
         else:
@@ -2099,14 +2097,14 @@ def maxima_and_the_tables_place(s):
     s.save()
     for maximum, number in [(0x19, 26), (0x1A, 26), (0x27, 26), (0x28, 21), (0, 21)]:
         state(s, maximum)
-        s.edit("insert_file", 0, b"b", paper=number, why=STATED if number == 26 else "14 bytes more", of="02", differs=True)
+        s.edit("insert_file", 0, b"b", rules=number, why=STATED if number == 26 else "14 bytes more")
         if maximum == 0x19:
             above(s, "rewrite")
             above(s, "move", 1, 0x900)
         else:
-            s.edit("rewrite", paper="ok", why="a table of the same size", of="02")
-            s.edit("move", 1, 0x900, paper="ok", why="a table of the same size", image=moved(s, 0x800, 0x900, 0x100), of="02")
-        s.edit("move", 1, 0x500, paper=21, why="over the program", of="02")
+            s.edit("rewrite", rules="ok", why="a table of the same size", differs=False)
+            s.edit("move", 1, 0x900, rules="ok", why="a table of the same size", image=moved(s, 0x800, 0x900, 0x100), differs=False)
+        s.edit("move", 1, 0x500, rules=21, why="over the program", differs=False)
     s.program(0x45A, 0xE4, "as it was")
 
 
@@ -2131,7 +2129,7 @@ def tables(s):
             s.look("entry", k)
         s.load()
         s.lend(0x1000, size - 1)
-        s.edit("rewrite", paper=9, why="one working byte too few")
+        s.edit("rewrite", rules=9, why="one working byte too few")
         s.lend(0x1000, size)
         s.edit("rewrite", note="just enough working bytes")
         s.lend(0x1000, 0x1000)
@@ -2140,7 +2138,7 @@ def tables(s):
 # ---- Japanese names. What the Rust's codec turns back into equal bytes is the Rust's to answer; the oracle skips the rest.
 
 LEAD = "a lead byte without its trail"
-AFRESH = LEAD + "; the byte after it is judged afresh"
+AFRESH = LEAD + "; the byte after it is looked at anew"
 PAIR = "a pair like any other; the Rust's codec does not read it"
 UNWRITTEN = "a pair like any other; the Rust's codec reads it and does not write it"
 OTHER = "a pair like any other; the Rust's codec writes another for it"
@@ -2158,7 +2156,7 @@ def one_name(name):
 def names_opened(s):
     s.lend(0x1000, 0x1000)
     for name, note in [
-            (japanese("表"), "the trail byte 0x5c is not a backslash"), (japanese("ソフト.bin"), ""), (japanese("構成／予定"), ""), (japanese("＼"), ""),
+            (japanese("表"), "the trail byte 0x5c is no backslash"), (japanese("ソフト.bin"), ""), (japanese("構成／予定"), ""), (japanese("＼"), ""),
             (b"\xA1", "the first single byte"), (b"\xDF", "the last"), (b"\x81\x40", "the first lead byte and the first trail"),
             (b"\x81\x7E", "trail 0x7e"), (b"\x81\x80", "trail 0x80"), (b"\x9F\xFC", "lead 0x9f, the last trail"), (b"\xE0\x40", "lead 0xe0"),
             (b"\xFC\x4B", "lead 0xfc"), (b"\x81\x81", ""), (b"\xB1\x95\x5C.", "a single byte, a pair, a dot"), (b".\xB1", ""), (b"..\x95\x5C", ""),
@@ -2174,8 +2172,8 @@ def names_opened(s):
             (b"\x80", 12, BYTES), (b"\x80\x40", 12, "0x80 is no lead byte"), (b"\x7F", 12, BYTES), (b"\x81\xAD", opened, PAIR), (b"\xFC\xFC", opened, PAIR),
             (b"\xEF\x5C", opened, PAIR), (b"\x81\xAD:", 13, PAIR + ", and so a colon is met")]:
         new_image(s, f"the small master with the name {name.hex(' ')}", 0x2000, one_name(name), files=[(0x500, 0x100)])
-        s.look("open", paper=answer, why=why, of="02", differs=True)
-        s.edit("rewrite", paper="ok" if answer == opened else answer, why=why, of="02", differs=True)
+        s.look("open", rules=answer, why=why)
+        s.edit("rewrite", rules="ok" if answer == opened else answer, why=why)
 
 
 def names_shared(s):
@@ -2218,16 +2216,16 @@ def names_looked_up(s):
             (0, "ｱ"), (0, "字幕/能/../表.bin"), (0, "字幕/能/ｱ/.."), (1, "能"), (4, "ｱ"), (4, ".."), (0, "表.bin"), (0, "字"), (0, "字幕幕"), (0, "能"),
             (0, "ｲ"), (0, "字幕/表"), (0, "ａ"), (0, "Ａ"), (8, "字幕")]:
         s.look("lookup", start, japanese(path))
-    stray = "in a path a lead byte without its trail counts as one byte of its component"
+    stray = "in a path a lead byte without its trail is a byte of its component"
     for start, path, number, why in [
             (0, b"\x81", 18, stray), (0, b"a\x81", 18, stray), (0, b"\x81/a", 18, stray), (0, b"\x81/../a", 18, stray), (0, b"a/\x81", 17, stray),
             (0, japanese("字幕/") + b"\x81/x", 18, stray), (0, b"../\x81", 18, "above the start, before that byte"), (0, b"\xA0", 18, BYTES),
             (0, b"\xFD\xB1", 18, BYTES), (0, b"\x8E", 18, "the first byte of a name"), (8, b"\x81", 15, "15 before all else"),
             (0, b"\x9A\x96\x8B", 18, "a name from inside its first pair on"),
             (0, b"\x81\xAD", 18, PAIR), (0, b"\xF0\x40", 18, UNWRITTEN)]:
-        s.look("lookup", start, path, paper=number, why=why, of="02", differs=True)
+        s.look("lookup", start, path, rules=number, why=why)
     s.look("lookup", 0, b"\x81\x81\x5C" * 341 + b"/", note="1,024 bytes")
-    s.look("lookup", 0, b"\x81\x81\x5C" * 341 + b"\x81\x81", paper=9, why="a path over 1,024 bytes")
+    s.look("lookup", 0, b"\x81\x81\x5C" * 341 + b"\x81\x81", rules=9, why="a path over 1,024 bytes")
 
 
 def names_edited(s):
@@ -2255,19 +2253,19 @@ def names_edited(s):
             (b"\x81", 12, LEAD), (b"a\xE0", 12, LEAD), (b"\x81.", 12, LEAD), (b"\x81\x7F", 12, LEAD), (b"\x81\x20", 12, LEAD), (b"\x81:", 13, AFRESH),
             (b"\x81/", 13, AFRESH), (b"\x81\x81\x81", 12, LEAD), (b"\x95\x5C\x95", 12, LEAD), (b"\xA0", 12, BYTES), (b"\x80", 12, BYTES),
             (b"\xFD\x40", 12, BYTES), (b"\x81\xFD", 12, LEAD)]:
-        s.edit("insert_file", 0, name, paper=number, why=why, of="02", differs=True)
-    s.edit("insert_file", 7, b"\x81", paper=17, why=LEAD + "; 17 before 12", of="02", differs=True)
-    s.edit("insert_directory", 8, b"\x81", paper=15, why=LEAD + "; 15 first", of="02", differs=True)
+        s.edit("insert_file", 0, name, rules=number, why=why)
+    s.edit("insert_file", 7, b"\x81", rules=17, why=LEAD + "; 17 before 12")
+    s.edit("insert_directory", 8, b"\x81", rules=15, why=LEAD + "; 15 first")
     for path, number, why in [
             (b"\x81", 12, LEAD), (b"x/\x81/y", 12, LEAD), (b"\x81/../x", 12, LEAD), (b"\x81/x:", 13, LEAD + "; 12 last"), (b"\x81/../..", 18, LEAD + "; 12 last"),
             (b"\x81/../a", 17, LEAD + "; 12 last"), (b"\x81:", 13, AFRESH), (b"\x95\x5C\x5C\x95", 12, LEAD),
             (b"x\x5C\xA0", 12, BYTES), (japanese("字幕/ソ/") + b"\x81", 17, LEAD + "; 12 last")]:
-        s.edit("make_directories", 0, path, paper=number, why=why, of="02", differs=True)
+        s.edit("make_directories", 0, path, rules=number, why=why)
 
 
 def names_that_do_not_come_back(s):
     def named(at, name, command):
-        """02's image: the Rust's with a pair that comes back, and the name's bytes put in its place."""
+        """The image by the rules: the Rust's with a pair that comes back, and the name's bytes put in its place."""
         def make():
             s.oracle.setting(command)
             s.oracle.setting(f"patch {at} {name.hex()}")
@@ -2282,22 +2280,22 @@ def names_that_do_not_come_back(s):
 
     for name, why in [(b"\x81\xAD", PAIR), (b"\xF0\x40", UNWRITTEN), (b"\xED\x40", OTHER), (b"\x87\x90", OTHER)]:
         new_image(s, f"the small master: {name.hex(' ')} is inserted", 0x2000, A_AT_500, files=[(0x500, 0x100)])
-        s.edit("insert_file", 0, name, paper="ok 2", why=why, of="02", image=named(0x466, name, "insert_file 0 8140"), differs=True)
-        s.look("lookup", 0, name, paper=[0, 2, 0, 0, 0], why=why, of="02", differs=True)
-        s.edit("insert_directory", 0, name, paper=19, why=why, of="02", differs=True)
+        s.edit("insert_file", 0, name, rules="ok 2", why=why, image=named(0x466, name, "insert_file 0 8140"))
+        s.look("lookup", 0, name, rules=[0, 2, 0, 0, 0], why=why)
+        s.edit("insert_directory", 0, name, rules=19, why=why)
         s.load()
-        s.edit("make_directories", 0, name + b"\\" + name, paper="ok 3", why=why, of="02", differs=True,
+        s.edit("make_directories", 0, name + b"\\" + name, rules="ok 3", why=why,
                image=lambda name=name: (named(0x472, name, "mkdirs 0 81402f8140")(), s.oracle.setting(f"patch 0x475 {name.hex()}")))
         new_image(s, f"the small master with the name {name.hex(' ')}", 0x2000, one_name(name), files=[(0x500, 0x100)])
-        s.edit("rewrite", paper="ok", why=why, of="02", differs=True)
-        s.edit("move", 1, 0x600, paper="ok", why=why, of="02", image=stood_for(name, "move 1 0x600"), differs=True)
-        s.edit("resize", 1, 0x80, paper="ok", why=why, of="02", image=stood_for(name, "resize 1 0x80"), differs=True)
-        s.edit("replace", 1, Clip(0x81), paper="ok", why=why, of="02", image=stood_for(name, "replace 1 " + Clip(0x81).hex()), differs=True)
+        s.edit("rewrite", rules="ok", why=why)
+        s.edit("move", 1, 0x600, rules="ok", why=why, image=stood_for(name, "move 1 0x600"))
+        s.edit("resize", 1, 0x80, rules="ok", why=why, image=stood_for(name, "resize 1 0x80"))
+        s.edit("replace", 1, Clip(0x81), rules="ok", why=why, image=stood_for(name, "replace 1 " + Clip(0x81).hex()))
     for name, other in [(b"\xED\x40", b"\xFA\x5C"), (b"\x87\x90", b"\x81\xE0")]:
         new_image(s, f"the small master with the name {name.hex(' ')}, which the Rust takes for {other.hex(' ')}", 0x2000, one_name(name),
                   files=[(0x500, 0x100)])
-        s.look("lookup", 0, other, paper=18, why="other bytes, another name", of="02", differs=True)
-        s.edit("insert_file", 0, other, paper="ok 2", why="other bytes, another name", of="02", differs=True,
+        s.look("lookup", 0, other, rules=18, why="other bytes, another name")
+        s.edit("insert_file", 0, other, rules="ok 2", why="other bytes, another name",
                image=stood_for(name, f"insert_file 0 {other.hex()}", at=0x464))
 
 
@@ -2311,19 +2309,19 @@ def refused(number):
 def listings(s):
     """The listing program's lines: every refusal, nested directories, free lists, the bound of 65,536 bytes."""
     s.lend(0x4000, 0)
-    new_image(s, "small master of document 01: its listing is document 01's", 0x2000, A_AT_500, free=False)
+    new_image(s, "the small master: its listing", 0x2000, A_AT_500, free=False)
     small = b"total 8192 used 1370\nd 0 0 2 /\nf 1 1280 256 /a\nr 1114 166\nr 1536 6656\n"
     assert s.listing_said() == small
-    s.text("report", 0x80, note="document 01 has these lines")
+    s.text("report", 0x80, note="the small master's listing")
     s.text("list", len(small), note="a buffer that is just long enough")
-    s.text("list", len(small) - 1, paper=9, why="a buffer that is a byte short")
-    s.text("report", len(small) - 1, paper=refused(9), why="the same, as the program says it")
-    s.text("report", 10, paper=refused(9), why="room for the refusal and no more")
-    s.text("report", 9, paper=b"", why="no room for the refusal: nothing is written")
-    s.text("report", 0, paper=b"", why="no room at all")
+    s.text("list", len(small) - 1, rules=9, why="a buffer that is a byte short")
+    s.text("report", len(small) - 1, rules=refused(9), why="the same, as the program says it")
+    s.text("report", 10, rules=refused(9), why="room for the refusal and no more")
+    s.text("report", 9, rules=b"", why="no room for the refusal: nothing is written")
+    s.text("report", 0, rules=b"", why="no room at all")
     s.lend(0xF, 0)
-    s.text("report", 0x80, paper=refused(9), why="one working word too few")
-    s.text("list", 0x80, paper=9, why="one working word too few")
+    s.text("report", 0x80, rules=refused(9), why="one working word too few")
+    s.text("list", 0x80, rules=9, why="one working word too few")
     s.lend(0x4000, 0)
     for number, note, change in [
             (1, "image of 0x43f bytes", lambda: s.size(0x43F)), (1, "an empty image", lambda: s.size(0)),
@@ -2336,20 +2334,20 @@ def listings(s):
             (13, "name .", lambda: s.patch(0x458, b".")), (14, "file in the table", lambda: s.patch(0x450, word(0x459)))]:
         s.load()
         change()
-        s.text("report", 0x80, paper=refused(number), why=note)
-        s.text("list", 0x80, paper=number, why=note)
+        s.text("report", 0x80, rules=refused(number), why=note)
+        s.text("list", 0x80, rules=number, why=note)
     for number, note, change in [
             (24, "a program's header that passes the image", lambda: s.patch(0x420, word(0x1F1D))),
             (24, "a program with a sum of 2^32", lambda: put_program(s, 0x1000, (0xFFFFFFFF, 1))),
             (14, "a program over a file's end", lambda: put_program(s, 0x5FF))]:
         s.load()
         change()
-        s.text("report", 0x80, paper=refused(number), why=note, of="02")
-        s.text("list", 0x80, paper=number, why=note, of="02")
+        s.text("report", 0x80, rules=refused(number), why=note)
+        s.text("list", 0x80, rules=number, why=note)
     s.load()
     put_program(s, 0x1000)
-    s.text("report", 0x80, paper=b"total 8192 used 1598\nd 0 0 2 /\nf 1 1280 256 /a\nr 1114 166\nr 1536 2560\nr 4324 3868\n",
-           why="a program of 0xe4 bytes at 0x1000 is used", of="02")
+    s.text("report", 0x80, rules=b"total 8192 used 1598\nd 0 0 2 /\nf 1 1280 256 /a\nr 1114 166\nr 1536 2560\nr 4324 3868\n",
+           why="a program of 0xe4 bytes at 0x1000 is used")
     s.load()
     table = (directory(0, 7, 7) + directory(0, 6, 5) + file(2, 0xFFFFFFFF, 0) + directory(0, 0, 5) + file(3, 0x600, 0x10) + file(2, 0x500, 0x100)
              + file(2, 0x441, 0) + b"d\0ab\0")
@@ -2377,7 +2375,7 @@ def listings(s):
     new_image(s, "an image of exactly 65,536 bytes, and one of 65,537", 0x10000, A_AT_500, free=False)
     s.text("report", 0x80)
     s.size(0x10001)
-    s.text("report", 0x80, paper=refused(9), why="more than 65,536 bytes")
+    s.text("report", 0x80, rules=refused(9), why="more than 65,536 bytes")
     s.text("list", 0x80, note="the call has no such bound")
 
 
@@ -2398,7 +2396,7 @@ def make(oracle):
             part(s)
         with open(os.path.join(SCRIPTS, name + ".txt"), "w", encoding="ascii") as out:
             out.write("\n".join(s.lines) + "\n")
-    print(f"{s.images} images, {s.rust + s.paper} calls: {s.rust} by the Rust, {s.paper} by documents 01 and 02")
+    print(f"{s.images} images, {s.rust + s.rules} calls: {s.rust} by the Rust, {s.rules} by the rules")
 
 
 if __name__ == "__main__":

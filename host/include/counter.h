@@ -42,7 +42,7 @@
  * Wii magic (2), GameCube magic (3); 4; the root (5, 6, 7); more entries than COUNTER_MOST_ENTRIES (9); each further entry in turn (5, 6);
  * 8; more bytes of names than COUNTER_MOST_TEXT (9); too few words (9); then each entry: 11, 12, 13 (not the root's), 10, a directory
  * deeper than COUNTER_MOST_LEVELS (9); then 24, for a DOL offset other than 0: the program's header passes the image, or one of its sums of
- * offset and size 2^32 - 1; then 14: two used regions overlap or one passes the disc end, or the program lies in neither of its places. The
+ * offset and size passes 2^32 - 1; then 14: two used regions overlap or one passes the disc end, or the program lies in neither of its places. The
  * calls' own tests follow, in the order in which their comments give them.
  */
 #ifndef COUNTER_H

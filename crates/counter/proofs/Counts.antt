@@ -39,7 +39,7 @@ runs-count p i (suc n) = go (p i) (runs-count p (suc i) n)
     go false h = omega arith
 
 free-count : (image : List ℕ) → length (free_space_of image) ≤ disc_end image
-unfolding free_space_of free_regions
+unfolding free_regions
 free-count image = runs-count _ 0 (disc_end image)
 
 module _ (row : DiscRegion → List ℕ) (image : List ℕ) (words room n : ℕ) where

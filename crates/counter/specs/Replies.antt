@@ -1,7 +1,7 @@
--- What the calls give back in C: for each answer of the crates below its number (document 01: "Causes and their numbers"; 0 where the call
--- is accepted), and the slots that the caller lends, as many as the answer has words. With a refusal they are "left as it was".
--- Assumes nothing: these are definitions.
-use Rattle.std.specs.Prelude.{Some, None, Result, Ok, Err, ℕ, ◌≡◌, List, [], ◌∷◌, ◌++◌, slice_index}
+-- What the calls give back in C: each answer's number, 0 where the call is accepted (RULES, Causes), and the
+-- slots that the caller lends, as many as the answer has words. With a refusal they stay. Assumes nothing:
+-- these are definitions.
+use Rattle.std.specs.Prelude.{Some, None, Result, Ok, Err, ℕ, List, [], ◌∷◌, ◌++◌, slice_index}
 use Rattle.refusal.specs.declared.Refusal.{Refusal}
 use Rattle.refusal.specs.Refusal.{Verdict, number_of}
 use Rattle.opened.specs.declared.summary.Disc.{Disc}
@@ -17,7 +17,6 @@ use Rattle.space.specs.declared.totals.Totals.{Totals}
 use Rattle.executable.specs.Program.{Program}
 use Rattle.window.specs.declared.Window.{Window}
 use Rattle.edits.specs.Edits.{numbered_as}
-use Rattle.opened.specs.Opening.{zeros}
 
 -- the number that a call returns, and its slots afterwards
 pub record Reply : Type 0 where
@@ -33,11 +32,6 @@ accepts ws = reply 0 ws
 -- the slots stay as they were
 abbrev pub refuses : List ℕ → Refusal → Reply
 refuses before c = reply (number_of c) before
-
--- a call that opens the image and reads it: what it gives back, and the working words, which are zero
-pub record Read (wanted given : Reply) (before after : List ℕ) : Type 0 where
-  pub answered : given ≡ wanted
-  pub words : after ≡ zeros before
 
 -- ---- a value or a refusal
 
@@ -87,7 +81,7 @@ abbrev pub entry_words : ℕ → Entry → List ℕ
 entry_words k (File f) = k ∷ 0 ∷ f.offset ∷ f.size ∷ []
 entry_words k (Directory d) = k ∷ 1 ∷ d.parent ∷ d.next ∷ []
 
--- "7 text and 11 data offsets, then addresses, then sizes in that order, BSS address, BSS size, entry point"
+-- offsets, addresses and sizes, of 7 text and then of 11 data sections each; BSS address and size; entry point
 unfoldable pub dol_words : DolHeader → List ℕ
 dol_words h =
     (h.text_offsets ++ h.data_offsets)

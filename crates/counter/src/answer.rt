@@ -1,6 +1,8 @@
-// A value or a refusal in C: 0 and the value in the memory that the caller lends, or the refusal's number and that memory as it was.
+// A value or a refusal in C: 0 and the value in the memory that the caller lends, or the refusal's
+// number and that memory as it was.
 ghost use Rattle.std.specs.Prelude.{◌≡◌, ℕ, List, []};
-ghost use Rattle.counter.specs.Replies.{number_told, slots_told, disc_words, disc_totals_words, region_words, one};
+ghost use Rattle.counter.specs.Replies.{number_told, slots_told};
+ghost use Rattle.counter.specs.Replies.{disc_words, disc_totals_words, region_words, one};
 ghost use Rattle.counter.specs.Replies.{window_words, totals_words};
 
 use disc::DiscTotals;

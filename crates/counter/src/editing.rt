@@ -5,13 +5,12 @@ ghost use Rattle.edit.specs.Inner.Decides.{edit_of};
 ghost use Rattle.counter.specs.Replies.{reply, one, done, numbered};
 
 use crate::answer::give;
-use edit::{Edit, NewEntry};
+use edit::{Edit, Kind, NewEntry};
 use space::Totals;
-use table_writing::Kind;
 
-// Kept: image, words, bytes and record one by one: in the exported functions C lends each by itself (C). In `give_done` and `give_entry`,
-// which C does not call, each is written or zeroed apart from the others, and a struct of four `&mut` would have each contract name the
-// loan of each field (N).
+// Kept: image, words, bytes and record one by one: in the exported functions C lends each by itself
+// (C). In `give_done` and `give_entry`, which C does not call, each is written or zeroed apart from
+// the others, and a struct of four `&mut` would have each contract name the loan of each field (N).
 
 // An edit that gives only that it is done.
 fn give_done(
@@ -21,7 +20,8 @@ fn give_done(
     totals: &mut Totals,
     edit: Edit<'_>,
 ) -> u32
-    ensures { Edited done (edit_of edit.entry) (lent image.old words.old bytes.old totals.old)
+    ensures { Edited done (edit_of edit.entry)
+        (lent image.old words.old bytes.old totals.old)
         (lent image.new words.new bytes.new totals.new) result }
 {
     give(&mut (), edit::done(image, words, bytes, totals, edit))
@@ -36,7 +36,8 @@ pub extern "C" fn counter_move_file(
     file: u32,
     offset: u32,
 ) -> u32
-    ensures { Edited done (edits.move_file file offset) (lent image.old words.old bytes.old totals.old)
+    ensures { Edited done (edits.move_file file offset)
+        (lent image.old words.old bytes.old totals.old)
         (lent image.new words.new bytes.new totals.new) result }
 {
     give_done(image, words, bytes, totals, Edit::Move { file, offset })
@@ -51,7 +52,8 @@ pub extern "C" fn counter_resize_file(
     file: u32,
     size: u32,
 ) -> u32
-    ensures { Edited done (edits.resize_file file size) (lent image.old words.old bytes.old totals.old)
+    ensures { Edited done (edits.resize_file file size)
+        (lent image.old words.old bytes.old totals.old)
         (lent image.new words.new bytes.new totals.new) result }
 {
     give_done(image, words, bytes, totals, Edit::Resize { file, size })
@@ -66,7 +68,8 @@ pub extern "C" fn counter_fill_file(
     file: u32,
     clip: &[u8],
 ) -> u32
-    ensures { Edited done (edits.fill_file file clip.now) (lent image.old words.old bytes.old totals.old)
+    ensures { Edited done (edits.fill_file file clip.now)
+        (lent image.old words.old bytes.old totals.old)
         (lent image.new words.new bytes.new totals.new) result }
 {
     give_done(image, words, bytes, totals, Edit::Fill { file, clip })
@@ -79,7 +82,8 @@ pub extern "C" fn counter_rewrite(
     bytes: &mut [u8],
     totals: &mut Totals,
 ) -> u32
-    ensures { Edited done edits.rewrite (lent image.old words.old bytes.old totals.old)
+    ensures { Edited done edits.rewrite
+        (lent image.old words.old bytes.old totals.old)
         (lent image.new words.new bytes.new totals.new) result }
 {
     give_done(image, words, bytes, totals, Edit::Rewrite)
@@ -96,8 +100,8 @@ fn give_entry(
     answer: &mut u32,
 ) -> u32
     ensures { Edited (numbered (one answer.old)) (edit_of edit.entry)
-        (lent image.old words.old bytes.old totals.old) (lent image.new words.new bytes.new totals.new)
-        (reply result (one answer.new)) }
+        (lent image.old words.old bytes.old totals.old)
+        (lent image.new words.new bytes.new totals.new) (reply result (one answer.new)) }
 {
     give(answer, edit::run(image, words, bytes, totals, edit))
 }
@@ -113,8 +117,8 @@ pub extern "C" fn counter_insert_file(
     answer: &mut u32,
 ) -> u32
     ensures { Edited (numbered (one answer.old)) (edits.insert_file parent name.now)
-        (lent image.old words.old bytes.old totals.old) (lent image.new words.new bytes.new totals.new)
-        (reply result (one answer.new)) }
+        (lent image.old words.old bytes.old totals.old)
+        (lent image.new words.new bytes.new totals.new) (reply result (one answer.new)) }
 {
     let kind = Kind::File;
     let new = NewEntry { parent, kind, name };
@@ -132,8 +136,8 @@ pub extern "C" fn counter_insert_directory(
     answer: &mut u32,
 ) -> u32
     ensures { Edited (numbered (one answer.old)) (edits.insert_directory parent name.now)
-        (lent image.old words.old bytes.old totals.old) (lent image.new words.new bytes.new totals.new)
-        (reply result (one answer.new)) }
+        (lent image.old words.old bytes.old totals.old)
+        (lent image.new words.new bytes.new totals.new) (reply result (one answer.new)) }
 {
     let kind = Kind::Directory;
     let new = NewEntry { parent, kind, name };
@@ -151,8 +155,8 @@ pub extern "C" fn counter_make_directories(
     answer: &mut u32,
 ) -> u32
     ensures { Edited (numbered (one answer.old)) (edits.make_directories start path.now)
-        (lent image.old words.old bytes.old totals.old) (lent image.new words.new bytes.new totals.new)
-        (reply result (one answer.new)) }
+        (lent image.old words.old bytes.old totals.old)
+        (lent image.new words.new bytes.new totals.new) (reply result (one answer.new)) }
 {
     give_entry(
         image,

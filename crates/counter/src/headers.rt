@@ -2,7 +2,8 @@
 ghost use Rattle.std.specs.Prelude.{◌≡◌, length, take};
 ghost use Rattle.header.specs.Verdicts.{header_verdict};
 ghost use Rattle.disc.specs.Files.{open_dol_answer};
-ghost use Rattle.counter.specs.Replies.{Read, reply, verdict_reply, dol_words, dol_reply, window_words};
+ghost use Rattle.opened.specs.Opening.{zeros};
+ghost use Rattle.counter.specs.Replies.{reply, verdict_reply, dol_words, dol_reply, window_words};
 ghost use Rattle.counter.specs.Replies.{dol_window_reply};
 
 use crate::answer::give;
@@ -32,10 +33,12 @@ pub extern "C" fn counter_open_dol(
     header: &mut DolHeader,
     window: &mut Window,
 ) -> u32
-    ensures answer { Read (dol_reply (dol_words header.old) (open_dol_answer image.now (length words.old)))
-        (reply result (dol_words header.new)) words.old words.new }
+    ensures header_after { reply result (dol_words header.new)
+        ≡ dol_reply (dol_words header.old) (open_dol_answer image.now (length words.old)) }
     ensures window_after { reply result (window_words window.new)
-        ≡ dol_window_reply (window_words window.old) (open_dol_answer image.now (length words.old)) }
+        ≡ dol_window_reply (window_words window.old)
+        (open_dol_answer image.now (length words.old)) }
+    ensures words_zero { words.new ≡ zeros words.old }
 {
     match disc::open_dol(image, words) {
         Ok(file) => {

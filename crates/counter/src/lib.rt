@@ -1,5 +1,6 @@
-// The C face of Counter (host/include/counter.h): every public call as a function on numbers, slices and slots of fixed length. Each returns
-// 0 where it is accepted, and else the number of the refusal; an answer goes into the memory that is lent for it.
+// The C face of Counter (host/include/counter.h): every public call as a function on numbers,
+// slices and slots of fixed length. Each returns 0 where it is accepted, and else the number of the
+// refusal; an answer goes into the memory that is lent for it.
 #![tactic(auto)]
 
 mod answer;

@@ -2,7 +2,8 @@
 ghost use Rattle.std.specs.Prelude.{◌≡◌, length};
 ghost use Rattle.disc.specs.Calls.{opened_of, totals_answer, record_answer, program_answer};
 ghost use Rattle.disc.specs.Files.{entry_answer, lookup_answer, entries_answer, entries_list};
-ghost use Rattle.counter.specs.Replies.{Read, reply, replied, disc_words, disc_totals_words, totals_words};
+ghost use Rattle.opened.specs.Opening.{zeros};
+ghost use Rattle.counter.specs.Replies.{reply, replied, disc_words, disc_totals_words, totals_words};
 ghost use Rattle.counter.specs.Replies.{region_words, found_reply, program_reply};
 
 use crate::answer::give;
@@ -34,17 +35,19 @@ fn give_found(answer: &mut [u32; 4], found: Found) -> u32
 
 #[unsafe(no_mangle)]
 pub extern "C" fn counter_open(image: &[u8], words: &mut [u32], answer: &mut Disc) -> u32
-    ensures { Read (replied disc_words (disc_words answer.old) (opened_of image.now (length words.old)))
-        (reply result (disc_words answer.new)) words.old words.new }
+    ensures answer { reply result (disc_words answer.new)
+        ≡ replied disc_words (disc_words answer.old) (opened_of image.now (length words.old)) }
+    ensures words_zero { words.new ≡ zeros words.old }
 {
     give(answer, disc::open(image, words))
 }
 
 #[unsafe(no_mangle)]
 pub extern "C" fn counter_totals(image: &[u8], words: &mut [u32], answer: &mut DiscTotals) -> u32
-    ensures { Read (replied disc_totals_words (disc_totals_words answer.old)
-        (totals_answer image.now (length words.old))) (reply result (disc_totals_words answer.new)) words.old
-        words.new }
+    ensures answer { reply result (disc_totals_words answer.new)
+        ≡ replied disc_totals_words (disc_totals_words answer.old)
+        (totals_answer image.now (length words.old)) }
+    ensures words_zero { words.new ≡ zeros words.old }
 {
     give(answer, disc::totals(image, words))
 }
@@ -52,8 +55,10 @@ pub extern "C" fn counter_totals(image: &[u8], words: &mut [u32], answer: &mut D
 // A totals record of the image, its count 0: used bytes, the largest free region's size, accepted edits.
 #[unsafe(no_mangle)]
 pub extern "C" fn counter_make_record(image: &[u8], words: &mut [u32], totals: &mut Totals) -> u32
-    ensures { Read (replied totals_words (totals_words totals.old) (record_answer image.now (length words.old)))
-        (reply result (totals_words totals.new)) words.old words.new }
+    ensures answer { reply result (totals_words totals.new)
+        ≡ replied totals_words (totals_words totals.old)
+        (record_answer image.now (length words.old)) }
+    ensures words_zero { words.new ≡ zeros words.old }
 {
     give(totals, disc::make_record(image, words))
 }
@@ -63,8 +68,9 @@ pub extern "C" fn counter_make_record(image: &[u8], words: &mut [u32], totals: &
 #[tactic(auto, unfolding(crate::specs::Replies::program_reply))]
 #[unsafe(no_mangle)]
 pub extern "C" fn counter_program(image: &[u8], words: &mut [u32], answer: &mut DiscRegion) -> u32
-    ensures { Read (program_reply (region_words answer.old) (program_answer image.now (length words.old)))
-        (reply result (region_words answer.new)) words.old words.new }
+    ensures answer { reply result (region_words answer.new)
+        ≡ program_reply (region_words answer.old) (program_answer image.now (length words.old)) }
+    ensures words_zero { words.new ≡ zeros words.old }
 {
     match disc::program(image, words) {
         Ok(Some(region)) => give(answer, Ok(region)),
@@ -80,8 +86,9 @@ pub extern "C" fn counter_entry(
     number: u32,
     answer: &mut [u32; 4],
 ) -> u32
-    ensures { Read (found_reply answer.old (entry_answer image.now (length words.old) number))
-        (reply result answer.new) words.old words.new }
+    ensures answer { reply result answer.new
+        ≡ found_reply answer.old (entry_answer image.now (length words.old) number) }
+    ensures words_zero { words.new ≡ zeros words.old }
 {
     give_found(answer, disc::entry(image, words, number))
 }
@@ -94,8 +101,9 @@ pub extern "C" fn counter_lookup(
     path: &[u8],
     answer: &mut [u32; 4],
 ) -> u32
-    ensures { Read (found_reply answer.old (lookup_answer image.now (length words.old) start path.now))
-        (reply result answer.new) words.old words.new }
+    ensures answer { reply result answer.new
+        ≡ found_reply answer.old (lookup_answer image.now (length words.old) start path.now) }
+    ensures words_zero { words.new ≡ zeros words.old }
 {
     give_found(answer, disc::lookup(image, words, start, path))
 }
@@ -107,9 +115,11 @@ pub extern "C" fn counter_entries(
     list: &mut [u32],
     answer: &mut Disc,
 ) -> u32
-    ensures { Read (replied disc_words (disc_words answer.old)
-        (entries_answer image.now (length words.old) (length list.old))) (reply result (disc_words answer.new))
-        words.old words.new × (list.new ≡ entries_list image.now (length words.old) list.old) }
+    ensures answer { reply result (disc_words answer.new)
+        ≡ replied disc_words (disc_words answer.old)
+        (entries_answer image.now (length words.old) (length list.old)) }
+    ensures list_after { list.new ≡ entries_list image.now (length words.old) list.old }
+    ensures words_zero { words.new ≡ zeros words.old }
 {
     give(answer, disc::entries(image, words, list))
 }

@@ -1,10 +1,11 @@
 // The calls on an image's free regions.
 ghost use Rattle.std.specs.Prelude.{◌≡◌, ℕ, ◌^◌, ◌<◌, length};
-ghost use Rattle.disc.specs.Calls.{free_regions_answer, free_regions_list, free_clusters_answer, free_clusters_list};
-ghost use Rattle.disc.specs.Calls.{allocate_answer};
+ghost use Rattle.disc.specs.Calls.{free_regions_answer, free_regions_list};
+ghost use Rattle.disc.specs.Calls.{free_clusters_answer, free_clusters_list, allocate_answer};
+ghost use Rattle.opened.specs.Opening.{zeros};
 ghost use Rattle.opened.specs.Answers.{max_region_size_answer};
 ghost use Rattle.disc.specs.Files.{max_file_size_answer};
-ghost use Rattle.counter.specs.Replies.{Read, reply, replied, one, region_words};
+ghost use Rattle.counter.specs.Replies.{reply, replied, one, region_words};
 
 use crate::answer::give;
 use refusal::Refusal;
@@ -28,9 +29,11 @@ pub extern "C" fn counter_free_regions(
     list: &mut [u32],
     answer: &mut u32,
 ) -> u32
-    ensures { Read (replied one (one answer.old)
-        (free_regions_answer image.now (length words.old) (length list.old))) (reply result (one answer.new))
-        words.old words.new × (list.new ≡ free_regions_list image.now (length words.old) list.old) }
+    ensures answer { reply result (one answer.new)
+        ≡ replied one (one answer.old)
+        (free_regions_answer image.now (length words.old) (length list.old)) }
+    ensures list_after { list.new ≡ free_regions_list image.now (length words.old) list.old }
+    ensures words_zero { words.new ≡ zeros words.old }
 {
     give_count(answer, disc::free_regions(image, words, list))
 }
@@ -42,9 +45,11 @@ pub extern "C" fn counter_free_clusters(
     list: &mut [u32],
     answer: &mut u32,
 ) -> u32
-    ensures { Read (replied one (one answer.old)
-        (free_clusters_answer image.now (length words.old) (length list.old))) (reply result (one answer.new))
-        words.old words.new × (list.new ≡ free_clusters_list image.now (length words.old) list.old) }
+    ensures answer { reply result (one answer.new)
+        ≡ replied one (one answer.old)
+        (free_clusters_answer image.now (length words.old) (length list.old)) }
+    ensures list_after { list.new ≡ free_clusters_list image.now (length words.old) list.old }
+    ensures words_zero { words.new ≡ zeros words.old }
 {
     give_count(answer, disc::free_clusters(image, words, list))
 }
@@ -57,9 +62,10 @@ pub extern "C" fn counter_max_region_size(
     size: u32,
     answer: &mut u32,
 ) -> u32
-    ensures { Read (replied one (one answer.old)
-        (max_region_size_answer image.now (length words.old) offset size)) (reply result (one answer.new))
-        words.old words.new }
+    ensures answer { reply result (one answer.new)
+        ≡ replied one (one answer.old)
+        (max_region_size_answer image.now (length words.old) offset size) }
+    ensures words_zero { words.new ≡ zeros words.old }
 {
     give(answer, disc::max_region_size(image, words, offset, size))
 }
@@ -71,8 +77,9 @@ pub extern "C" fn counter_max_file_size(
     number: u32,
     answer: &mut u32,
 ) -> u32
-    ensures { Read (replied one (one answer.old) (max_file_size_answer image.now (length words.old) number))
-        (reply result (one answer.new)) words.old words.new }
+    ensures answer { reply result (one answer.new)
+        ≡ replied one (one answer.old) (max_file_size_answer image.now (length words.old) number) }
+    ensures words_zero { words.new ≡ zeros words.old }
 {
     give(answer, disc::max_file_size(image, words, number))
 }
@@ -85,9 +92,10 @@ pub extern "C" fn counter_allocate(
     align: u32,
     answer: &mut DiscRegion,
 ) -> u32
-    ensures { Read (replied region_words (region_words answer.old)
-        (allocate_answer image.now (length words.old) size align)) (reply result (region_words answer.new))
-        words.old words.new }
+    ensures answer { reply result (region_words answer.new)
+        ≡ replied region_words (region_words answer.old)
+        (allocate_answer image.now (length words.old) size align) }
+    ensures words_zero { words.new ≡ zeros words.old }
 {
     give(answer, disc::allocate(image, words, size, align))
 }

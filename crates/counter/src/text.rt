@@ -1,7 +1,8 @@
 // The listing of an image as text.
-ghost use Rattle.std.specs.Prelude.{◌≡◌, [], ◌∷◌, length};
+ghost use Rattle.std.specs.Prelude.{◌≡◌, length};
+ghost use Rattle.opened.specs.Opening.{zeros};
 ghost use Rattle.listing.specs.Listing.{list_answer, list_buffer, report_answer, report_buffer};
-ghost use Rattle.counter.specs.Replies.{Read, reply, accepts, replied, one};
+ghost use Rattle.counter.specs.Replies.{reply, accepts, replied, one};
 
 use crate::answer::give;
 
@@ -12,9 +13,11 @@ pub extern "C" fn counter_list(
     text: &mut [u8],
     answer: &mut u64,
 ) -> u32
-    ensures { Read (replied one (one answer.old) (list_answer image.now (length words.old) (length text.old)))
-        (reply result (one answer.new)) words.old words.new
-        × (text.new ≡ list_buffer image.now (length words.old) text.old) }
+    ensures answer { reply result (one answer.new)
+        ≡ replied one (one answer.old)
+        (list_answer image.now (length words.old) (length text.old)) }
+    ensures text_after { text.new ≡ list_buffer image.now (length words.old) text.old }
+    ensures words_zero { words.new ≡ zeros words.old }
 {
     match listing::list(image, words, text) {
         Ok(length) => give(answer, Ok(length as u64)),
@@ -30,9 +33,10 @@ pub extern "C" fn counter_report(
     text: &mut [u8],
     answer: &mut u64,
 ) -> u32
-    ensures { Read (accepts (report_answer image.now (length words.old) (length text.old) ∷ []))
-        (reply result (one answer.new)) words.old words.new
-        × (text.new ≡ report_buffer image.now (length words.old) text.old) }
+    ensures answer { reply result (one answer.new)
+        ≡ accepts (one (report_answer image.now (length words.old) (length text.old))) }
+    ensures text_after { text.new ≡ report_buffer image.now (length words.old) text.old }
+    ensures words_zero { words.new ≡ zeros words.old }
 {
     let length = listing::report(image, words, text);
     give(answer, Ok(length as u64))

@@ -3,7 +3,8 @@ ghost use Rattle.std.specs.Prelude.{◌≡◌, length};
 ghost use Rattle.window.specs.Window.{seek_of, count_of, window_after_read, buffer_of};
 ghost use Rattle.std.specs.declared.io.SeekFrom.TheVariants.{Start, Current, End};
 ghost use Rattle.disc.specs.Files.{open_file_answer};
-ghost use Rattle.counter.specs.Replies.{Read, reply, replied, window_words};
+ghost use Rattle.opened.specs.Opening.{zeros};
+ghost use Rattle.counter.specs.Replies.{reply, replied, window_words};
 
 use crate::answer::give;
 use window::{SeekFrom, Window};
@@ -15,9 +16,10 @@ pub extern "C" fn counter_open_file(
     number: u32,
     window: &mut Window,
 ) -> u32
-    ensures { Read (replied window_words (window_words window.old)
-        (open_file_answer image.now (length words.old) number)) (reply result (window_words window.new))
-        words.old words.new }
+    ensures answer { reply result (window_words window.new)
+        ≡ replied window_words (window_words window.old)
+        (open_file_answer image.now (length words.old) number) }
+    ensures words_zero { words.new ≡ zeros words.old }
 {
     give(window, disc::open_file(image, words, number))
 }

@@ -1,4 +1,3 @@
 -- What the proofs of the functions cite.
 pub mod Asked
-pub mod AskedOfFiles
 pub mod Records

@@ -13,12 +13,12 @@ use Rattle.space.specs.Allocate.{allocation_of}
 use Rattle.space.specs.declared.totals.Totals.{Totals}
 use Rattle.executable.specs.Program.{Program, program_of}
 use Rattle.opened.specs.Opening.{opening, free_space_of, used_of}
-use Rattle.opened.specs.Answers.{behind, disc_of}
+use Rattle.opened.specs.Answers.{behind, summary_of}
 
 -- ---- the answer of `open`
 
 unfoldable pub opened_of : List ℕ → ℕ → Result Disc Refusal
-opened_of image words = behind (opening image words) Err (Ok (disc_of image))
+opened_of image words = behind (opening image words) Err (Ok (summary_of image))
 
 -- ---- space
 
@@ -26,15 +26,15 @@ unfoldable pub totals_answer : List ℕ → ℕ → Result DiscTotals Refusal
 totals_answer image words =
     behind (opening image words) Err (Ok (record { disc_end = disc_end image; used = used_of image }))
 
--- used bytes, the largest free region's size (0 if none) and accepted edits, worked out afresh of an image, after n edits
+-- an image's own record, as it is after n edits
 abbrev pub totals_of : List ℕ → ℕ → Totals
 totals_of image n = record { used = used_of image; largest = largest_size (free_space_of image); edits = n }
 
--- "A record made at opening, its count 0"
+-- RULES, The totals record: a record made of an image counts no edit
 unfoldable pub record_answer : List ℕ → ℕ → Result Totals Refusal
 record_answer image words = behind (opening image words) Err (Ok (totals_of image 0))
 
--- a nonzero DOL offset means a program from there, wherever it lies
+-- wherever the program lies
 unfoldable pub program_answer : List ℕ → ℕ → Program
 program_answer image words = behind (opening image words) Err (program_of image)
 
@@ -52,7 +52,7 @@ free_regions_answer image words room = free_answer region_row image words room
 abbrev pub free_regions_list : List ℕ → ℕ → List ℕ → List ℕ
 free_regions_list image words list = free_list region_row image words list
 
--- for each free region the bytes before its first multiple of 0x8000, the whole clusters, and the exact rest
+-- the free regions in clusters
 abbrev pub free_clusters_answer : List ℕ → ℕ → ℕ → Result ℕ Refusal
 free_clusters_answer image words room = free_answer cluster_row image words room
 

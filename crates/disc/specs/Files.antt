@@ -1,5 +1,5 @@
--- The answers of the calls on entries, files and the executable (document 01; the order of refusals: "Calls go on: path over 1,024 bytes or
--- result list short 9, then 15, 16 or 17"). Assumes nothing: these are definitions.
+-- The answers of the calls on entries, files and the executable, and the order of their refusals (RULES,
+-- Calls). Assumes nothing: these are definitions.
 use Rattle.std.specs.Prelude.{Result, Ok, Err, nat_lt}
 use Rattle.refusal.specs.Refusal.{Verdict}
 use Rattle.refusal.specs.declared.Refusal.{Refusal}
@@ -20,12 +20,12 @@ use Rattle.tree.specs.declared.Found.TheVariants as found
 use Rattle.table.specs.Rows.{list_verdict, list_with_rows}
 use Rattle.disc.specs.declared.answers.DolFile.{DolFile}
 use Rattle.opened.specs.Opening.{opening, table_of, nodes_in}
-use Rattle.opened.specs.Answers.{behind, disc_of, max_region_size_answer}
+use Rattle.opened.specs.Answers.{behind, summary_of, max_region_size_answer}
 
 unfoldable pub entry_answer : List ℕ → ℕ → ℕ → Found
 entry_answer image words k = behind (opening image words) found.Refused (entry_found (nodes_in image) k)
 
--- the entry of a tree that a path leads to: "path over 1,024 bytes .. 9"
+-- the entry of a tree that a path leads to; a path of more than 1,024 bytes is 9
 abbrev pub path_found : List Node → ℕ → List ℕ → Found
 path_found nodes start path =
     behind (refuse (nat_lt 1024 (length path)) LimitOrMemory (Ok tt)) found.Refused (found_at nodes (lookup nodes start path))
@@ -38,7 +38,7 @@ unfoldable pub entries_answer : List ℕ → ℕ → ℕ → Result Disc Refusal
 entries_answer image words room =
     behind (opening image words) Err
     (behind (list_verdict (table_of image) room) Err
-    (Ok (disc_of image)))
+    (Ok (summary_of image)))
 
 unfoldable pub entries_list : List ℕ → ℕ → List ℕ → List ℕ
 entries_list image words list = behind (opening image words) (λ c. list) (list_with_rows (fst_offset image) (table_of image) list)

@@ -1,5 +1,6 @@
-// Opening an image, and every call that reads it. Each call opens the image anew, and leaves the working words
-// zero.
+// What the calls answer that no crate below has a type for.
+use executable::DolHeader;
+use window::Window;
 
 /// Where a disc ends, and how many of its bytes are used.
 #[repr(C)]
@@ -8,9 +9,6 @@ pub struct DiscTotals {
     pub disc_end: u32,
     pub used: u32,
 }
-
-use executable::DolHeader;
-use window::Window;
 
 /// The executable: its header, and the window that shows it.
 #[derive(Clone, Copy, PartialEq, Eq, Debug)]

@@ -3,7 +3,8 @@ ghost use Rattle.std.specs.Prelude.{◌≡◌, length};
 ghost use Rattle.tree.specs.Lookup.{entry_found};
 ghost use Rattle.opened.specs.Opening.{zeros};
 ghost use Rattle.disc.specs.Files as files_of;
-ghost use Rattle.disc.specs.Files.{path_found, entry_answer, lookup_answer, open_file_answer, max_file_size_answer};
+ghost use Rattle.disc.specs.Files.{path_found, entry_answer, lookup_answer};
+ghost use Rattle.disc.specs.Files.{open_file_answer, max_file_size_answer};
 
 use opened::{Lent, OpenDisc};
 use refusal::Refusal;
@@ -11,17 +12,18 @@ use table::Table;
 use tree::{Entry, FileEntry, Found};
 use window::Window;
 
-// Kept: image and words, here and in `listing`, are what a caller lends to each call, as C does.
+// Kept: image and words, here and in `rows`, are what a caller lends to each call, as C does.
+
 // Entry `number` of a disc.
 fn entry_in(disc: &OpenDisc<'_>, number: u32) -> Found
-    ensures { result ≡ entry_found disc.now.nodes number }
+    ensures { result ≡ entry_found disc.now.disc.nodes number }
 {
     Table::new(disc.table()).entry(number)
 }
 
 // The entry of a disc that a path of at most 1,024 bytes leads to.
 fn found_in(disc: &OpenDisc<'_>, start: u32, path: &[u8]) -> Found
-    ensures { result ≡ path_found disc.now.nodes start path.now }
+    ensures { result ≡ path_found disc.now.disc.nodes start path.now }
 {
     if 1024 < path.len() {
         return Found::Refused(Refusal::LimitOrMemory);
@@ -31,7 +33,7 @@ fn found_in(disc: &OpenDisc<'_>, start: u32, path: &[u8]) -> Found
 
 // The place of file `number` of a disc: 15, then 16.
 fn file_in(disc: &OpenDisc<'_>, number: u32) -> Result<FileEntry, Refusal>
-    ensures { result ≡ files_of.file_in (entry_found disc.now.nodes number) }
+    ensures { result ≡ files_of.file_in (entry_found disc.now.disc.nodes number) }
 {
     match entry_in(disc, number) {
         Found::At(_, Entry::File(file)) => Ok(file),
@@ -41,6 +43,7 @@ fn file_in(disc: &OpenDisc<'_>, number: u32) -> Result<FileEntry, Refusal>
 }
 
 /// Entry `number`.
+#[tactic(auto, using(crate::proofs::Asked::not_asked), unfolding(crate::specs::Files::entry_answer))]
 pub fn entry(image: &[u8], words: &mut [u32], number: u32) -> Found
     ensures answer { result ≡ entry_answer image.now (length words.old) number }
     ensures words_zero { words.new ≡ zeros words.old }
@@ -52,7 +55,9 @@ pub fn entry(image: &[u8], words: &mut [u32], number: u32) -> Found
     }
 }
 
-/// The entry that a path leads to from the entry `start`. Refuses 9 for a path of more than 1,024 bytes, then 15, 17 and 18.
+/// The entry that a path leads to from the entry `start`. Refuses 9 for a path of more than 1,024
+/// bytes, then 15, 17 and 18.
+#[tactic(auto, using(crate::proofs::Asked::not_asked), unfolding(crate::specs::Files::lookup_answer))]
 pub fn lookup(image: &[u8], words: &mut [u32], start: u32, path: &[u8]) -> Found
     ensures answer { result ≡ lookup_answer image.now (length words.old) start path.now }
     ensures words_zero { words.new ≡ zeros words.old }

@@ -1,12 +1,12 @@
-// What an image's header and its regions say: opening, totals, the totals record, the program, free regions, clusters,
-// the largest size of a region, allocation.
+// What an image's header and its regions say: opening, totals, the totals record, the program, free
+// regions, clusters, the largest size of a region, allocation.
 ghost use Rattle.std.specs.Prelude.{◌≡◌, List, ℕ, length};
 ghost use Rattle.opened.specs.Opening.{zeros};
 ghost use Rattle.opened.specs.Inner.Disc.{Means};
 ghost use Rattle.opened.specs.Answers.{max_region_size_answer};
 ghost use Rattle.disc.specs.Calls.{opened_of, totals_answer, totals_of, record_answer, program_answer};
-ghost use Rattle.disc.specs.Calls.{free_regions_answer, free_regions_list, free_clusters_answer, free_clusters_list};
-ghost use Rattle.disc.specs.Calls.{allocate_answer};
+ghost use Rattle.disc.specs.Calls.{free_regions_answer, free_regions_list};
+ghost use Rattle.disc.specs.Calls.{free_clusters_answer, free_clusters_list, allocate_answer};
 
 use crate::answers::DiscTotals;
 use executable::Program;
@@ -15,6 +15,7 @@ use refusal::Refusal;
 use space::{Clusters, DiscRegion, Totals, UsedRegions};
 
 /// Opens an image and tells of its disc, or says why it is refused.
+#[tactic(auto, using(crate::proofs::Asked::not_asked), unfolding(crate::specs::Calls::opened_of))]
 pub fn open(image: &[u8], words: &mut [u32]) -> Result<Disc, Refusal>
     ensures answer { result ≡ opened_of image.now (length words.old) }
     ensures words_zero { words.new ≡ zeros words.old }
@@ -25,6 +26,7 @@ pub fn open(image: &[u8], words: &mut [u32]) -> Result<Disc, Refusal>
 }
 
 /// The disc end and the used total.
+#[tactic(auto, using(crate::proofs::Asked::not_asked), unfolding(crate::specs::Calls::totals_answer))]
 pub fn totals(image: &[u8], words: &mut [u32]) -> Result<DiscTotals, Refusal>
     ensures answer { result ≡ totals_answer image.now (length words.old) }
     ensures words_zero { words.new ≡ zeros words.old }
@@ -44,8 +46,8 @@ fn record_of(disc: &OpenDisc<'_>) -> Totals
     let disc_end = disc.end();
     let used = UsedRegions::new(disc.words, disc.used, disc_end);
     let table_end = disc.start() + disc.room();
-    // Kept: a region without bytes, which is no plainer as an `Option`: the definition of the largest size takes one
-    // where no file is edited.
+    // Kept: a region without bytes, which is no plainer as an `Option`: the definition of the
+    // largest size takes one where no file is edited.
     let none = DiscRegion { offset: 0, size: 0 };
     Totals {
         used: disc.used_size(),
@@ -55,6 +57,7 @@ fn record_of(disc: &OpenDisc<'_>) -> Totals
 }
 
 /// A totals record of the image, its count 0.
+#[tactic(auto, using(crate::proofs::Asked::not_asked), unfolding(crate::specs::Calls::record_answer))]
 pub fn make_record(image: &[u8], words: &mut [u32]) -> Result<Totals, Refusal>
     ensures answer { result ≡ record_answer image.now (length words.old) }
     ensures words_zero { words.new ≡ zeros words.old }
@@ -65,6 +68,7 @@ pub fn make_record(image: &[u8], words: &mut [u32]) -> Result<Totals, Refusal>
 }
 
 /// Where the program lies, before the table or behind it; `None` if the image has none.
+#[tactic(auto, using(crate::proofs::Asked::not_asked), unfolding(crate::specs::Calls::program_answer))]
 pub fn program(image: &[u8], words: &mut [u32]) -> Program
     ensures answer { result ≡ program_answer image.now (length words.old) }
     ensures words_zero { words.new ≡ zeros words.old }
@@ -75,8 +79,8 @@ pub fn program(image: &[u8], words: &mut [u32]) -> Program
 }
 
 // Kept: image, words and list are what a caller lends to each call, as C does.
-/// The free regions, an offset and a size each, into `list`; how many there are. Refuses 9, with nothing written, if
-/// the list is short.
+/// The free regions, an offset and a size each, into `list`; how many there are. Refuses 9, with
+/// nothing written, if the list is short.
 pub fn free_regions(image: &[u8], words: &mut [u32], list: &mut [u32]) -> Result<usize, Refusal>
     ensures answer { result ≡ free_regions_answer image.now (length words.old) (length list.old) }
     ensures list_after { list.new ≡ free_regions_list image.now (length words.old) list.old }
@@ -87,8 +91,8 @@ pub fn free_regions(image: &[u8], words: &mut [u32], list: &mut [u32]) -> Result
     disc.used_regions().list_free::<2, DiscRegion>(list)
 }
 
-/// The free regions in clusters of 0x8000 bytes into `list`: the bytes before the first multiple, the clusters and the
-/// rest of each. Refuses 9, with nothing written, if the list is short.
+/// The free regions in clusters of 0x8000 bytes into `list`: the bytes before the first multiple,
+/// the clusters and the rest of each. Refuses 9, with nothing written, if the list is short.
 pub fn free_clusters(image: &[u8], words: &mut [u32], list: &mut [u32]) -> Result<usize, Refusal>
     ensures answer { result ≡ free_clusters_answer image.now (length words.old) (length list.old) }
     ensures list_after { list.new ≡ free_clusters_list image.now (length words.old) list.old }
@@ -114,8 +118,9 @@ pub fn max_region_size(
     Ok(disc.max_region_size(offset, size))
 }
 
-/// The largest free place for `size` bytes at a multiple of `align`, the last among equals. Refuses 22 for an `align`
-/// that is no power of two, 21 if there is no such place.
+/// The largest free place for `size` bytes at a multiple of `align`, the last among equals. Refuses
+/// 22 for an `align` that is no power of two, 21 if there is no such place.
+#[tactic(auto, using(crate::proofs::Asked::not_asked), unfolding(crate::specs::Calls::allocate_answer))]
 pub fn allocate(
     image: &[u8],
     words: &mut [u32],

@@ -7,8 +7,10 @@ use opened::{Disc, Lent, OpenDisc};
 use refusal::Refusal;
 use table::Table;
 
-/// Each entry into `list`: kind, the directory it is nested in, offset, size or next, the place of its name in the image, the name's
-/// length. The answer is that of `open`; refuses 9, with nothing written, if the list is short.
+/// Each entry into `list`: kind, the directory it is nested in, offset, size or next, the place of
+/// its name in the image, the name's length. The answer is that of `open`; refuses 9, with nothing
+/// written, if the list is short.
+#[tactic(auto, using(crate::proofs::Asked::not_asked), unfolding(crate::specs::Files::entries_answer))]
 pub fn entries(image: &[u8], words: &mut [u32], list: &mut [u32]) -> Result<Disc, Refusal>
     ensures answer { result ≡ entries_answer image.now (length words.old) (length list.old) }
     ensures list_after { list.new ≡ entries_list image.now (length words.old) list.old }

@@ -17,7 +17,8 @@ use Rattle.tree.proofs.Laws.WrittenEntries.{length-encode}
 use Rattle.edit.specs.declared.decision.Writing.{Writing}
 use Rattle.edit.specs.declared.decision.Decision.{Decision}
 use Rattle.edit.specs.declared.decision.Decision.TheVariants as decision
-use Rattle.edits.specs.Change.{written, table_verdict_in, Plan, refused, nothing, change, filled, place_verdict_in}
+use Rattle.opened.specs.Opening.{Disc}
+use Rattle.edits.specs.Change.{written, table_verdict, Plan, refused, nothing, change, filled, place_verdict}
 use Rattle.edits.specs.Edits.{planned, plan_verdict, plan_image, plan_number, numbered_as}
 use Rattle.edits.proofs.Laws.Behind as behind
 use Rattle.edit.specs.Inner.Decision.{change_with, placing, written_with, Fits, behind_tests, carried_answer, Decided, DecidedAs}
@@ -39,9 +40,9 @@ written_same : (image : List ℕ) (nodes : List Node) (w : Writing) → written_
 unfolding written_with written
 written_same image nodes w = refl
 
-module _ (image : List ℕ) (words room : ℕ) (bytes : List ℕ) where
+module _ (image : List ℕ) (x : Disc) (words room : ℕ) (bytes : List ℕ) where
   -- with any clip: none is written
-  refused-with : (clip : List ℕ) (p : Plan) (c : Refusal) → plan_verdict p image words room ≡ Err c → DecidedAs (plan_verdict p image words room) p image room bytes clip (Err c)
+  refused-with : (clip : List ℕ) (p : Plan) (c : Refusal) → plan_verdict p x words room ≡ Err c → DecidedAs (plan_verdict p x words room) p image room bytes clip (Err c)
   refused-with clip p c e = record {
     fits = tt;
     carries = tt;
@@ -49,21 +50,21 @@ module _ (image : List ℕ) (words room : ℕ) (bytes : List ℕ) where
     after = sym (ap (λ (v : Verdict). cond (is_refused v) image (plan_image p image)) e);
   }
 
-  pub refused-decided : (p : Plan) (c : Refusal) → plan_verdict p image words room ≡ Err c → Decided p image words room bytes (Err c)
+  pub refused-decided : (p : Plan) (c : Refusal) → plan_verdict p x words room ≡ Err c → Decided p image x words room bytes (Err c)
   refused-decided p c e = refused-with [] p c e
 
-  pub behind-passed : (v : Verdict) (p : Plan) (d : Result Decision Refusal) → v ≡ Ok tt → Decided p image words room bytes d → Decided (planned v p) image words room bytes d
+  pub behind-passed : (v : Verdict) (p : Plan) (d : Result Decision Refusal) → v ≡ Ok tt → Decided p image x words room bytes d → Decided (planned v p) image x words room bytes d
   behind-passed v p d e h = rw (behind.behind-passed v p e) h
 
-  pub behind-refused-with : (clip : List ℕ) (v : Verdict) (p : Plan) (c : Refusal) → v ≡ Err c → DecidedAs (plan_verdict (planned v p) image words room) (planned v p) image room bytes clip (Err c)
+  pub behind-refused-with : (clip : List ℕ) (v : Verdict) (p : Plan) (c : Refusal) → v ≡ Err c → DecidedAs (plan_verdict (planned v p) x words room) (planned v p) image room bytes clip (Err c)
   behind-refused-with clip v p c e = rw (behind.behind-refused v p c e) (refused-with clip (refused (Err c)) c refl)
 
-  pub behind-refused : (v : Verdict) (p : Plan) (c : Refusal) → v ≡ Err c → Decided (planned v p) image words room bytes (Err c)
+  pub behind-refused : (v : Verdict) (p : Plan) (c : Refusal) → v ≡ Err c → Decided (planned v p) image x words room bytes (Err c)
   behind-refused v p c e = behind-refused-with [] v p c e
 
   -- a change whose tests passed, with its table in the working bytes
-  pub write-decided : (k : ℕ) (nodes : List Node) (size : ℕ) (w : Writing) → Fits image room size w → table_verdict_in (change_with nodes w) image words room ≡ Ok tt → span bytes 0 size ≡ encode nodes →
-      Decided (change k (change_with nodes w)) image words room bytes (Ok (decision.Write k size w))
+  pub write-decided : (k : ℕ) (nodes : List Node) (size : ℕ) (w : Writing) → Fits image room size w → table_verdict (change_with nodes w) x words room ≡ Ok tt → span bytes 0 size ≡ encode nodes →
+      Decided (change k (change_with nodes w)) image x words room bytes (Ok (decision.Write k size w))
   write-decided k nodes size w f e s = record {
     fits = (λ z. omega arith, f);
     carries = record { number = refl; table = s; change = refl };
@@ -77,10 +78,10 @@ pub length-encode-set_place : (o n k : ℕ) (nodes : List Node) → length (enco
 length-encode-set_place o n k nodes =
     omega (arith, length-encode (set_place k o n nodes), length-encode nodes, length-set_place o n k nodes, ap length (texts-set_place o n k nodes))
 
-pub same_tests : (image : List ℕ) (words room k o n : ℕ) (nodes : List Node) (w : Writing) →
-    table_verdict_in (change_with (set_place k o n nodes) w) image words room ≡ table_verdict_in (placing nodes w.place) image words room
-unfolding table_verdict_in place_verdict_in
-same_tests image words room k o n nodes w = rw (limits-set_place o n k nodes words, length-encode-set_place o n k nodes)
+pub same_tests : (x : Disc) (words room k o n : ℕ) (nodes : List Node) (w : Writing) →
+    table_verdict (change_with (set_place k o n nodes) w) x words room ≡ table_verdict (placing nodes w.place) x words room
+unfolding table_verdict place_verdict
+same_tests x words room k o n nodes w = rw (limits-set_place o n k nodes words, length-encode-set_place o n k nodes)
 
 -- ---- the answer with the entry's number
 

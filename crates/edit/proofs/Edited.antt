@@ -11,8 +11,8 @@ use Rattle.refusal.specs.declared.Refusal.{Refusal}
 use Rattle.refusal.specs.Laws.Chains.{first-passed}
 use Rattle.space.specs.declared.totals.Totals.{Totals}
 use Rattle.space.specs.Totals.{totals_verdict}
-use Rattle.opened.specs.Opening.{opening, used_of, zeros}
-use Rattle.opened.specs.Inner.Disc.{Disc, Means}
+use Rattle.opened.specs.Opening.{opening, used_of, zeros, disc_of}
+use Rattle.opened.specs.Inner.Disc.{Opened, Means}
 use Rattle.edits.specs.Change.{Plan, refused}
 use Rattle.edits.specs.Edits.{Edit, planned, plan_of, plan_verdict, plan_image, plan_number, numbered_as, counted_verdict, verdict_of, image_after, totals_to, totals_after}
 use Rattle.edits.specs.Promise.{lent, Edited}
@@ -36,15 +36,15 @@ module _ (p : Plan) (image : List ℕ) (words room : ℕ) (bytes clip : List ℕ
     totals = rw e;
   })
 
-  passed-accounted : (d : Result Decision Refusal) (a : Accounted) → counted_verdict p t image words room ≡ Ok tt → DecidedAs (plan_verdict p image words room) p image room bytes clip d → a ≡ accounted d (totals_to t image (plan_image p image)) → IsAccountedFor p image words room bytes clip t a
+  passed-accounted : (d : Result Decision Refusal) (a : Accounted) → counted_verdict p t image words room ≡ Ok tt → DecidedAs (plan_verdict p (disc_of image) words room) p image room bytes clip d → a ≡ accounted d (totals_to t image (plan_image p image)) → IsAccountedFor p image words room bytes clip t a
   unfolding counted_verdict
   passed-accounted d a e h q =
-      let o : plan_verdict p image words room ≡ Ok tt = (first-passed (plan_verdict p image words room) _ e).0 in
+      let o : plan_verdict p (disc_of image) words room ≡ Ok tt = (first-passed (plan_verdict p (disc_of image) words room) _ e).0 in
       let k : DecidedAs (Ok tt) p image room bytes clip d = rw o at h in
       rw q (record { decided = rw e k; totals = rw e })
 
   -- as the law of AccountLaws has it
-  pub entered-accounted : (d : Result Decision Refusal) (a : Accounted) → DecidedAs (plan_verdict p image words room) p image room bytes clip d →
+  pub entered-accounted : (d : Result Decision Refusal) (a : Accounted) → DecidedAs (plan_verdict p (disc_of image) words room) p image room bytes clip d →
       laws.IsEntered (counted_verdict p t image words room) d t (totals_to t image (plan_image p image)) a → IsAccountedFor p image words room bytes clip t a
   entered-accounted d a h n = go (counted_verdict p t image words room) refl
     where
@@ -54,24 +54,24 @@ module _ (p : Plan) (image : List ℕ) (words room : ℕ) (bytes clip : List ℕ
 
 -- the record of an account by the words
 counted : (p : Plan) (image : List ℕ) (words room : ℕ) (d : Result Decision Refusal) (a b : Accounted) (t t' : Totals) → a ≡ b →
-    laws.IsEntered (first (plan_verdict p image words room) (totals_verdict t (used_of image) (used_of (plan_image p image)))) d t t' b → laws.IsEntered (counted_verdict p t image words room) d t t' a
+    laws.IsEntered (first (plan_verdict p (disc_of image) words room) (totals_verdict t (used_of image) (used_of (plan_image p image)))) d t t' b → laws.IsEntered (counted_verdict p t image words room) d t t' a
 unfolding counted_verdict
 counted p image words room d a b t t' e n = rw e n
 
 -- ---- an edit: opening, then its plan
 
-module _ (ed : Edit) (h : Passable ed) (image : List ℕ) (d : Disc) (m : Means image d) (room : ℕ) (bytes clip : List ℕ) (long : length bytes ≡ room) where
-  module _ (r : Result Decision Refusal) (decided : DecidedAs (plan_verdict (plan_of ed image) image d.words room) (plan_of ed image) image room bytes clip r) where
-    lays : plan_verdict (plan_of ed image) image d.words room ≡ Ok tt → Lays (plan_of ed image) image (plan_image (plan_of ed image) image)
+module _ (ed : Edit) (h : Passable ed) (image : List ℕ) (d : Opened) (m : Means image d) (room : ℕ) (bytes clip : List ℕ) (long : length bytes ≡ room) where
+  module _ (r : Result Decision Refusal) (decided : DecidedAs (plan_verdict (plan_of ed (disc_of image)) (disc_of image) d.words room) (plan_of ed (disc_of image)) image room bytes clip r) where
+    lays : plan_verdict (plan_of ed (disc_of image)) (disc_of image) d.words room ≡ Ok tt → Lays (plan_of ed (disc_of image)) image (plan_image (plan_of ed (disc_of image)) image)
     lays v = (arrives image d.words room m.known.bytes m.known.passed ed h v).2
 
     -- entered in the record
     pub open-accounted : (a : Accounted) (t : Totals) → OfUsed d (λ image' behind. a ≡ account_of image' behind r t) →
-        IsAccountedFor (planned (opening image d.words) (plan_of ed image)) image d.words room bytes clip t a
+        IsAccountedFor (planned (opening image d.words) (plan_of ed (disc_of image))) image d.words room bytes clip t a
     open-accounted a t q =
-        let n = laws.entered image q.words q.count room bytes long t (q.held image m) (plan_image (plan_of ed image) image) (plan_of ed image) clip r (rw (← q.long) at decided) (rw (← q.long) at lays) in
-        let f = entered-accounted (plan_of ed image) image d.words room bytes clip t r a decided (counted (plan_of ed image) image d.words room r a _ t _ (q.is image m) (rw q.long at n)) in
-        rw (behind-passed (opening image d.words) (plan_of ed image) m.known.passed) f
+        let n = laws.entered image q.words q.count room bytes long t (q.held image m) (plan_image (plan_of ed (disc_of image)) image) (plan_of ed (disc_of image)) clip r (rw (← q.long) at decided) (rw (← q.long) at lays) in
+        let f = entered-accounted (plan_of ed (disc_of image)) image d.words room bytes clip t r a decided (counted (plan_of ed (disc_of image)) image d.words room r a _ t _ (q.is image m) (rw q.long at n)) in
+        rw (behind-passed (opening image d.words) (plan_of ed (disc_of image)) m.known.passed) f
 
 pub unopened-accounted : (p : Plan) (image : List ℕ) (words : ℕ) (c : Refusal) (room : ℕ) (bytes clip : List ℕ) (t : Totals) (a : Accounted) → opening image words ≡ Err c → a ≡ accounted (Err c) t →
     IsAccountedFor (planned (opening image words) p) image words room bytes clip t a
@@ -82,21 +82,21 @@ unopened-accounted p image words c room bytes clip t a q e =
 
 module _ (ed : Edit) (image : List ℕ) (words room : ℕ) (bytes clip : List ℕ) (t t' : Totals) (d : Result Decision Refusal) where
   -- opening and the plan are the whole edit
-  edit-accounted : IsAccountedFor (planned (opening image words) (plan_of ed image)) image words room bytes clip t (accounted d t') →
-      (carried_answer d ≡ numbered_as (verdict_of ed t image words room) (plan_number (plan_of ed image))) × (carried_image d bytes clip image ≡ image_after ed t image words room) × (t' ≡ totals_after ed t image words room)
+  edit-accounted : IsAccountedFor (planned (opening image words) (plan_of ed (disc_of image))) image words room bytes clip t (accounted d t') →
+      (carried_answer d ≡ numbered_as (verdict_of ed t image words room) (plan_number (plan_of ed (disc_of image)))) × (carried_image d bytes clip image ≡ image_after ed t image words room) × (t' ≡ totals_after ed t image words room)
   unfolding verdict_of image_after totals_after
   edit-accounted f = go (opening image words) f
     where
-      go : (v : Verdict) → IsAccountedFor (planned v (plan_of ed image)) image words room bytes clip t (accounted d t') →
-          (carried_answer d ≡ numbered_as (first v (counted_verdict (plan_of ed image) t image words room)) (plan_number (plan_of ed image)))
-          × (carried_image d bytes clip image ≡ cond (is_refused (first v (counted_verdict (plan_of ed image) t image words room))) image (plan_image (plan_of ed image) image))
-          × (t' ≡ cond (is_refused (first v (counted_verdict (plan_of ed image) t image words room))) t (totals_to t image (plan_image (plan_of ed image) image)))
+      go : (v : Verdict) → IsAccountedFor (planned v (plan_of ed (disc_of image))) image words room bytes clip t (accounted d t') →
+          (carried_answer d ≡ numbered_as (first v (counted_verdict (plan_of ed (disc_of image)) t image words room)) (plan_number (plan_of ed (disc_of image))))
+          × (carried_image d bytes clip image ≡ cond (is_refused (first v (counted_verdict (plan_of ed (disc_of image)) t image words room))) image (plan_image (plan_of ed (disc_of image)) image))
+          × (t' ≡ cond (is_refused (first v (counted_verdict (plan_of ed (disc_of image)) t image words room))) t (totals_to t image (plan_image (plan_of ed (disc_of image)) image)))
       go (Ok _) k = (answered _ _ _ _ _ _ _ k.decided, k.decided.after, k.totals)
       go (Err c) k =
           let e : counted_verdict (refused (Err c)) t image words room ≡ Err c = unfold counted_verdict in refl in
           (answered _ _ _ _ _ _ _ k.decided ∙ rw e, k.decided.after ∙ rw e, k.totals ∙ rw e)
 
-pub edited : (ed : Edit) (image words bytes clip x b image' words' bytes' : List ℕ) (t t' : Totals) (d : Result Decision Refusal) → IsAccountedFor (planned (opening image (length words)) (plan_of ed image)) image (length words) (length bytes) b clip t (accounted d t') → x ≡ clip →
+pub edited : (ed : Edit) (image words bytes clip x b image' words' bytes' : List ℕ) (t t' : Totals) (d : Result Decision Refusal) → IsAccountedFor (planned (opening image (length words)) (plan_of ed (disc_of image))) image (length words) (length bytes) b clip t (accounted d t') → x ≡ clip →
     image' ≡ carried_image d b x image → words' ≡ zeros words → bytes' ≡ zeros bytes → (r : Result ℕ Refusal) → r ≡ carried_answer d → Edited numbered_as ed (lent image words bytes t) (lent image' words' bytes' t') r
 edited ed image words bytes clip x b image' words' bytes' t t' d f c i zw zb r q =
     let e = edit-accounted ed image (length words) (length bytes) b clip t t' d f in

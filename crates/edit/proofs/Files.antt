@@ -19,7 +19,7 @@ use Rattle.tree.specs.Insert.{set_place}
 use Rattle.tree.proofs.Laws.PatchLaws.{place-patched}
 use Rattle.tree.proofs.Laws.WrittenEntries.{length-encode}
 use Rattle.space.specs.declared.region.DiscRegion.{DiscRegion}
-use Rattle.opened.specs.Opening.{nodes_in, region_of, free_space_of}
+use Rattle.opened.specs.Opening.{nodes_in, region_of, free_space_of, Disc}
 use Rattle.opened.specs.Inner.Prepared.{OpenImage}
 use Rattle.edit.specs.declared.decision.Decision.{Decision}
 use Rattle.edit.specs.declared.decision.Decision.TheVariants as decision
@@ -98,36 +98,36 @@ module _ (image : List ℕ) (words : ℕ) (known : OpenImage image words) (k : �
 
 -- ---- the decisions
 
-module _ (image : List ℕ) (words room : ℕ) (bytes : List ℕ) (free : List DiscRegion) (nodes : List Node) (k : ℕ) where
+module _ (image : List ℕ) (x : Disc) (words room : ℕ) (bytes : List ℕ) (free : List DiscRegion) (nodes : List Node) (k : ℕ) where
   pub move-decided : (to : ℕ) (old : DiscRegion) (d : Result Decision Refusal) → file_verdict nodes k ≡ Ok tt → region_of (get_or nodes k none) ≡ old →
-      Decided (planned (relocate_verdict free old (record { offset = to; size = old.size })) (change k (relocated nodes k old (record { offset = to; size = old.size })))) image words room bytes d →
-      Decided (plan_move free nodes k to) image words room bytes d
+      Decided (planned (relocate_verdict free old (record { offset = to; size = old.size })) (change k (relocated nodes k old (record { offset = to; size = old.size })))) image x words room bytes d →
+      Decided (plan_move free nodes k to) image x words room bytes d
   unfolding plan_move
   move-decided to old d p e h =
       let r : DiscRegion = region_of (get_or nodes k none) in
-      let h' : Decided (planned (relocate_verdict free r (record { offset = to; size = r.size })) (change k (relocated nodes k r (record { offset = to; size = r.size })))) image words room bytes d = rw (← e) at h in
+      let h' : Decided (planned (relocate_verdict free r (record { offset = to; size = r.size })) (change k (relocated nodes k r (record { offset = to; size = r.size })))) image x words room bytes d = rw (← e) at h in
       rw (planned-first (file_verdict nodes k) (relocate_verdict free r (record { offset = to; size = r.size })) (change k (relocated nodes k r (record { offset = to; size = r.size }))))
-      (behind-passed image words room bytes (file_verdict nodes k) (planned (relocate_verdict free r (record { offset = to; size = r.size })) (change k (relocated nodes k r (record { offset = to; size = r.size })))) d p h')
+      (behind-passed image x words room bytes (file_verdict nodes k) (planned (relocate_verdict free r (record { offset = to; size = r.size })) (change k (relocated nodes k r (record { offset = to; size = r.size })))) d p h')
 
-  pub move-refused : (to : ℕ) (c : Refusal) → file_verdict nodes k ≡ Err c → Decided (plan_move free nodes k to) image words room bytes (Err c)
+  pub move-refused : (to : ℕ) (c : Refusal) → file_verdict nodes k ≡ Err c → Decided (plan_move free nodes k to) image x words room bytes (Err c)
   unfolding plan_move
   move-refused to c e =
       let r : DiscRegion = region_of (get_or nodes k none) in
-      behind-refused image words room bytes (first (file_verdict nodes k) (relocate_verdict free r (record { offset = to; size = r.size }))) (change k (relocated nodes k r (record { offset = to; size = r.size }))) c
+      behind-refused image x words room bytes (first (file_verdict nodes k) (relocate_verdict free r (record { offset = to; size = r.size }))) (change k (relocated nodes k r (record { offset = to; size = r.size }))) c
       (ap (λ (v : Verdict). first v (relocate_verdict free r (record { offset = to; size = r.size }))) e)
 
   pub resize-decided : (n : ℕ) (old : DiscRegion) (d : Result Decision Refusal) → file_verdict nodes k ≡ Ok tt → region_of (get_or nodes k none) ≡ old →
-      Decided (plan_sized free nodes k old n) image words room bytes d → Decided (plan_resize free nodes k n) image words room bytes d
+      Decided (plan_sized free nodes k old n) image x words room bytes d → Decided (plan_resize free nodes k n) image x words room bytes d
   unfolding plan_resize
   resize-decided n old d p e h =
       let r : DiscRegion = region_of (get_or nodes k none) in
-      let h' : Decided (plan_sized free nodes k r n) image words room bytes d = rw (← e) at h in
-      behind-passed image words room bytes (file_verdict nodes k) (plan_sized free nodes k r n) d p h'
+      let h' : Decided (plan_sized free nodes k r n) image x words room bytes d = rw (← e) at h in
+      behind-passed image x words room bytes (file_verdict nodes k) (plan_sized free nodes k r n) d p h'
 
-  pub resize-refused : (n : ℕ) (c : Refusal) → file_verdict nodes k ≡ Err c → Decided (plan_resize free nodes k n) image words room bytes (Err c)
+  pub resize-refused : (n : ℕ) (c : Refusal) → file_verdict nodes k ≡ Err c → Decided (plan_resize free nodes k n) image x words room bytes (Err c)
   unfolding plan_resize
-  resize-refused n c e = behind-refused image words room bytes (file_verdict nodes k) (plan_sized free nodes k (region_of (get_or nodes k none)) n) c e
+  resize-refused n c e = behind-refused image x words room bytes (file_verdict nodes k) (plan_sized free nodes k (region_of (get_or nodes k none)) n) c e
 
   module _ (old : DiscRegion) (n : ℕ) where
-    pub size-kept : n ≡ old.size → Decided (plan_sized free nodes k old n) image words room bytes (Ok decision.Nothing)
+    pub size-kept : n ≡ old.size → Decided (plan_sized free nodes k old n) image x words room bytes (Ok decision.Nothing)
     size-kept e = rw (eq-eqb n old.size e) (record { fits = tt; carries = tt; answer = refl; after = refl })

@@ -1,7 +1,7 @@
 -- What a fill decides on, as what its plan comes to: the clip first, and then what the resize writes besides. Assumes nothing.
 use Rattle.std.specs.Prelude.{Result, Ok, Err}
 use Prim.Native.Nat.{ℕ, ◌<◌, ◌≤◌}
-use mathlib.Core.Path.{◌≡◌, refl, sym, ap, ◌∙◌}
+use mathlib.Core.Path.{◌≡◌, refl, sym, ap, subst, ◌∙◌}
 use mathlib.Core.List.{List, []}
 use native.Mathlib.Omega.{arith}
 use borrow.Author.Tests.{le-ltb, lt-ltb}
@@ -12,12 +12,12 @@ use Rattle.refusal.specs.declared.Refusal.{Refusal}
 use Rattle.refusal.specs.declared.Refusal.TheVariants.{NotEnoughSpace}
 use Rattle.tree.specs.Table.{none}
 use Rattle.space.specs.declared.region.DiscRegion.{DiscRegion}
-use Rattle.opened.specs.Opening.{nodes_in, free_space_of, region_of}
+use Rattle.opened.specs.Opening.{nodes_in, free_space_of, region_of, Disc, disc_of, free_of}
 use Rattle.opened.specs.Inner.Prepared.{OpenImage}
 use Rattle.edits.specs.Change.{Plan, filled}
 use Rattle.edits.specs.Edits.{file_verdict, clip_verdict, plan_sized, plan_resize, plan_fill, plan_verdict, plan_image}
 use Rattle.edits.proofs.Laws.Puts.{put-length}
-use Rattle.opened.specs.Inner.Disc.{Disc, free_of, Means}
+use Rattle.opened.specs.Inner.Disc.{Opened, Means}
 use Rattle.edit.specs.declared.file.File.{File}
 use Rattle.edit.specs.Inner.Files.{IsFile, file_in}
 use Rattle.edit.proofs.Files.{FoundFile, file-found, file-refused}
@@ -26,7 +26,7 @@ use Rattle.edit.specs.declared.decision.Decision.{Decision}
 use Rattle.edit.specs.declared.decision.Decision.TheVariants as decision
 use Rattle.edit.specs.Inner.Decision.{behind_tests, written_with, Fits, carried_image, Decided, DecidedAs}
 use Rattle.edit.proofs.Decisions.{behind-refused-with}
-use Rattle.edit.proofs.Discs.{nodes_are, free_is}
+use Rattle.edit.proofs.Discs.{nodes_are}
 use Rattle.edit.specs.Inner.Filling.{uncopied, with_clip, Clear}
 use Rattle.edit.proofs.Clips.{clipped-put, clip-first, offset-kept, size-kept}
 use Rattle.edit.proofs.Places.{clip-stays, never-clip, clip-clear}
@@ -47,11 +47,11 @@ module _ (image : List ℕ) (words room : ℕ) (bytes clip : List ℕ) (known : 
   abbrev sized : Plan
   sized = plan_sized (free_space_of image) (nodes_in image) k old (length clip)
 
-  filled-refused : (c : Refusal) → Decided sized image words room bytes (Err c) → DecidedAs (plan_verdict sized image words room) (filled k clip sized) image room bytes clip (Err c)
+  filled-refused : (c : Refusal) → Decided sized image (disc_of image) words room bytes (Err c) → DecidedAs (plan_verdict sized (disc_of image) words room) (filled k clip sized) image room bytes clip (Err c)
   filled-refused c h = record { fits = tt; carries = tt; answer = h.answer; after = rw (← h.answer) }
 
   -- the clip goes where the file lies then
-  filled-decided : (d : Decision) → Decided sized image words room bytes (Ok d) → DecidedAs (plan_verdict sized image words room) (filled k clip sized) image room bytes clip (Ok (with_clip d (record { number = k; place = old })))
+  filled-decided : (d : Decision) → Decided sized image (disc_of image) words room bytes (Ok d) → DecidedAs (plan_verdict sized (disc_of image) words room) (filled k clip sized) image room bytes clip (Ok (with_clip d (record { number = k; place = old })))
   filled-decided decision.Nothing h =
       let s = clip-stays image words known k f old here (length clip) bytes h.carries in
       record {
@@ -83,44 +83,53 @@ module _ (image : List ℕ) (words room : ℕ) (bytes clip : List ℕ) (known : 
 
 -- ---- by what the code found, on a disc that the image means
 
-module _ (image : List ℕ) (d : Disc) (m : Means image d) (bytes after clip : List ℕ) (k : ℕ) (r : Result File Refusal) (read : r ≡ behind_tests (file_verdict d.nodes k) (file_in d.nodes k)) where
+module _ (image : List ℕ) (d : Opened) (m : Means image d) (bytes after clip : List ℕ) (k : ℕ) (r : Result File Refusal) (read : r ≡ behind_tests (file_verdict d.disc.nodes k) (file_in d.disc.nodes k)) where
   abbrev plan : Plan
-  plan = plan_fill (free_of d) d.nodes k clip
+  plan = plan_fill (free_of d.disc) d.disc.nodes k clip
 
   abbrev Fills : Result Decision Refusal → Type 0
-  Fills x = DecidedAs (plan_verdict plan image d.words (length bytes)) plan image (length bytes) after clip x
+  Fills x = DecidedAs (plan_verdict plan d.disc d.words (length bytes)) plan image (length bytes) after clip x
 
-  fill-refused : (c : Refusal) → clip_verdict d.nodes k (length clip) ≡ Err c → Fills (Err c)
+  fill-refused : (c : Refusal) → clip_verdict d.disc.nodes k (length clip) ≡ Err c → Fills (Err c)
   unfolding plan_fill
-  fill-refused c e = behind-refused-with image d.words (length bytes) after clip (clip_verdict d.nodes k (length clip)) _ c e
+  fill-refused c e = behind-refused-with image d.disc d.words (length bytes) after clip (clip_verdict d.disc.nodes k (length clip)) _ c e
 
   pub no-file-to-fill : (c : Refusal) → r ≡ Err c → Fills (Err c)
-  no-file-to-fill c e = fill-refused c (rw (file-refused d.nodes k r c read e))
+  no-file-to-fill c e = fill-refused c (rw (file-refused d.disc.nodes k r c read e))
 
   module _ (f : File) (found : r ≡ Ok f) where
-    file : FoundFile d.nodes k f
-    file = file-found d.nodes k r f read found
+    file : FoundFile d.disc.nodes k f
+    file = file-found d.disc.nodes k r f read found
 
     pub clip-too-long : 0xFFFFFFFF < length clip → Fills (Err NotEnoughSpace)
     clip-too-long h = fill-refused NotEnoughSpace (rw (file.passed, lt-ltb 0xFFFFFFFF (length clip) h))
 
     module _ (long : length after ≡ length bytes) (n : ℕ) (short : length clip ≤ 0xFFFFFFFF) (e : n ≡ length clip) where
-      plan-is : plan ≡ filled k clip (plan_sized (free_of d) d.nodes k f.place (length clip))
+      plan-is : plan ≡ filled k clip (plan_sized (free_of d.disc) d.disc.nodes k f.place (length clip))
       unfolding plan_fill plan_resize
       plan-is = rw (file.passed, le-ltb 0xFFFFFFFF (length clip) short, file.place)
 
-      nodes : nodes_in image ≡ d.nodes
+      nodes : nodes_in image ≡ d.disc.nodes
       nodes = nodes_are image d m
 
-      free : free_space_of image ≡ free_of d
-      free = free_is image d m
-
       abbrev Sized : Result Decision Refusal → Type 0
-      Sized x = Decided (plan_sized (free_of d) d.nodes f.number f.place n) image d.words (length bytes) after x
+      Sized x = Decided (plan_sized (free_of d.disc) d.disc.nodes f.number f.place n) image d.disc d.words (length bytes) after x
 
-      -- the resize, as one of the image to the clip's length
-      sized-is : (x : Result Decision Refusal) → Sized x → Decided (plan_sized (free_space_of image) (nodes_in image) k f.place (length clip)) image d.words (length bytes) after x
-      sized-is x h = rw (free, nodes) (rw (file.number, e) at h)
+      -- the resize to the clip's length, and the fill, on a disc
+      abbrev SizedOn : Result Decision Refusal → Disc → Type 0
+      SizedOn x y = Decided (plan_sized (free_of y) y.nodes k f.place (length clip)) image y d.words (length bytes) after x
+
+      abbrev FilledOn : Result Decision Refusal → Disc → Type 0
+      FilledOn x y =
+          DecidedAs (plan_verdict (plan_sized (free_of y) y.nodes k f.place (length clip)) y d.words (length bytes)) (filled k clip (plan_sized (free_of y) y.nodes k f.place (length clip))) image (length bytes) after clip x
+
+      -- the resize, as one of the image
+      sized-is : (x : Result Decision Refusal) → Sized x → SizedOn x (disc_of image)
+      sized-is x h = subst (SizedOn x) (sym m.is) (rw (file.number, e) at h)
+
+      -- the fill, as one of the disc
+      fills : (x : Result Decision Refusal) → FilledOn x (disc_of image) → Fills x
+      fills x h = rw plan-is (subst (FilledOn x) m.is h)
 
       is : IsFile (nodes_in image) k
       is = rw nodes file.is
@@ -129,9 +138,9 @@ module _ (image : List ℕ) (d : Disc) (m : Means image d) (bytes after clip : L
       here = rw nodes file.place
 
       pub not-resized : (c : Refusal) → Sized (Err c) → Fills (Err c)
-      not-resized c h = rw plan-is (rw (nodes, free) at (filled-refused image d.words (length bytes) after clip m.known k is f.place here long c (sized-is (Err c) h)))
+      not-resized c h = fills (Err c) (filled-refused image d.words (length bytes) after clip m.known k is f.place here long c (sized-is (Err c) h))
 
       pub filled-by : (x y : Decision) → Sized (Ok x) → y ≡ with_clip x f → Fills (Ok y)
       filled-by x y h u =
           let q : f ≡ record { number = k; place = f.place } = ap (λ (i : ℕ). record { number = i; place = f.place }) file.number in
-          rw (u, plan-is, q) (rw (nodes, free) at (filled-decided image d.words (length bytes) after clip m.known k is f.place here long x (sized-is (Ok x) h)))
+          rw (u, q) (fills (Ok (with_clip x (record { number = k; place = f.place }))) (filled-decided image d.words (length bytes) after clip m.known k is f.place here long x (sized-is (Ok x) h)))

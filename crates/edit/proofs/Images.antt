@@ -27,8 +27,8 @@ use Rattle.space.specs.MaxRegionSize.{max_region_size}
 use Rattle.space.specs.Free.{free_regions}
 use Rattle.space.specs.Laws.GrowthLaws.{table-largest, place-free}
 use Rattle.space.specs.Laws.PassedLayout.{passes}
-use Rattle.opened.specs.Opening.{table_of, nodes_in, region_of, behind_table, used_in, free_space_of}
-use Rattle.edits.specs.Change.{table_verdict_in, place_verdict_in}
+use Rattle.opened.specs.Opening.{table_of, nodes_in, region_of, behind_table, used_in, free_space_of, Disc, disc_of}
+use Rattle.edits.specs.Change.{table_verdict, place_verdict}
 use Rattle.edits.specs.Edits.{overlaps_itself, relocate_verdict}
 use Rattle.edits.proofs.Laws.PlaceTests.{place-passed, free-byte}
 use Rattle.opened.specs.Inner.Prepared.{OpenImage}
@@ -99,10 +99,10 @@ module _ (image : List ℕ) (words : ℕ) (known : OpenImage image words) where
 
   -- ---- where the table and the files lie
 
-  pub place-fits : (room size : ℕ) (place : DiscRegion) → place_verdict_in image room size place ≡ Ok tt → TableFits (length image) room (fst_offset image) (fst_size image) size
-  unfolding free_space_of used_in
-  place-fits room size place e =
-      let p = place-passed image room size place e in
+  pub place-fits : (x : Disc) → disc_of image ≡ x → (room size : ℕ) (place : DiscRegion) → place_verdict x room size place ≡ Ok tt → TableFits (length image) room (fst_offset image) (fst_size image) size
+  unfolding used_in
+  place-fits x same room size place e =
+      let p = place-passed image room size place (ap (λ (y : Disc). place_verdict y room size place) same ∙ e) in
       let m : size ≤ max_region_size (fst_offset image) (fst_size image) (free_regions (disc_end image) (used_regions (table_end image) (behind_table image))) = p.grows in
       let l = table-largest (disc_end image) (table_end image) (behind_table image) (fst_offset image) (fst_size image) refl in
       let k = known.reads.bounds in
@@ -131,7 +131,7 @@ module _ (image : List ℕ) (words : ℕ) (known : OpenImage image words) where
 
   -- n bytes that are free
   pub place-lies : (o n : ℕ) → n ≤ max_region_size o 0 (free_space_of image) → 0 < n → (table_end image ≤ o) × (o + n ≤ disc_end image)
-  unfolding free_space_of used_in
+  unfolding used_in
   place-lies o n m z =
       let p = place-free (disc_end image) (used_in image) o n z m in
       let e : o + 0 ≡ o = omega arith in
@@ -145,44 +145,44 @@ module _ (image : List ℕ) (words : ℕ) (known : OpenImage image words) where
       place-lies new.offset new.size (ltb-false _ new.size b.0) z
 
 -- the tests of a table: the limits, then its size and place
-pub table-tests : (nodes : List Node) (place : DiscRegion) (image : List ℕ) (words room : ℕ) →
-    table_verdict_in (placing nodes place) image words room ≡ first (limits nodes words) (place_verdict_in image room (length (encode nodes)) place)
-unfolding table_verdict_in place_verdict_in
-table-tests nodes place image words room = refl
+pub table-tests : (nodes : List Node) (place : DiscRegion) (x : Disc) (words room : ℕ) →
+    table_verdict (placing nodes place) x words room ≡ first (limits nodes words) (place_verdict x room (length (encode nodes)) place)
+unfolding table_verdict place_verdict
+table-tests nodes place x words room = refl
 
 -- what the tests of a table that passed give: it is small, and it fits
-pub table-passed : (nodes : List Node) (place : DiscRegion) (image : List ℕ) (words room : ℕ) → table_verdict_in (placing nodes place) image words room ≡ Ok tt →
-    (length (encode nodes) ≤ 2 ^ 24) × (place_verdict_in image room (length (encode nodes)) place ≡ Ok tt)
-table-passed nodes place image words room e =
-    let p = first-passed (limits nodes words) (place_verdict_in image room (length (encode nodes)) place) (sym (table-tests nodes place image words room) ∙ e) in
+pub table-passed : (nodes : List Node) (place : DiscRegion) (x : Disc) (words room : ℕ) → table_verdict (placing nodes place) x words room ≡ Ok tt →
+    (length (encode nodes) ≤ 2 ^ 24) × (place_verdict x room (length (encode nodes)) place ≡ Ok tt)
+table-passed nodes place x words room e =
+    let p = first-passed (limits nodes words) (place_verdict x room (length (encode nodes)) place) (sym (table-tests nodes place x words room) ∙ e) in
     let w = within-limits nodes words p.0 in
     (omega (arith, length-encode nodes, w.few, w.texts), p.1)
 
 -- ---- the table as it is
 
 -- the limits were passed, or the table's place was judged
-pub table-past : (nodes : List Node) (place : DiscRegion) (image : List ℕ) (words room : ℕ) → limits nodes words ≡ Err LimitOrMemory → Err LimitOrMemory ≡ behind_tests (table_verdict_in (placing nodes place) image words room) (length (encode nodes))
-table-past nodes place image words room e =
-    sym (ap (λ (v : Verdict). behind_tests v (length (encode nodes))) (table-tests nodes place image words room ∙ ap (λ (v : Verdict). first v (place_verdict_in image room (length (encode nodes)) place)) e))
+pub table-past : (nodes : List Node) (place : DiscRegion) (x : Disc) (words room : ℕ) → limits nodes words ≡ Err LimitOrMemory → Err LimitOrMemory ≡ behind_tests (table_verdict (placing nodes place) x words room) (length (encode nodes))
+table-past nodes place x words room e =
+    sym (ap (λ (v : Verdict). behind_tests v (length (encode nodes))) (table-tests nodes place x words room ∙ ap (λ (v : Verdict). first v (place_verdict x room (length (encode nodes)) place)) e))
 
-pub table-sized : (nodes : List Node) (place : DiscRegion) (image : List ℕ) (words room size : ℕ) (v : Verdict) → limits nodes words ≡ Ok tt → size ≡ length (encode nodes) → v ≡ place_verdict_in image room size place →
-    behind_tests v size ≡ behind_tests (table_verdict_in (placing nodes place) image words room) (length (encode nodes))
-table-sized nodes place image words room size v a b p =
-    ap (λ (x : Verdict). behind_tests x size) p ∙ ap (λ (n : ℕ). behind_tests (place_verdict_in image room n place) n) b
-    ∙ sym (ap (λ (x : Verdict). behind_tests x (length (encode nodes))) (table-tests nodes place image words room ∙ ap (λ (x : Verdict). first x (place_verdict_in image room (length (encode nodes)) place)) a))
+pub table-sized : (nodes : List Node) (place : DiscRegion) (x : Disc) (words room size : ℕ) (v : Verdict) → limits nodes words ≡ Ok tt → size ≡ length (encode nodes) → v ≡ place_verdict x room size place →
+    behind_tests v size ≡ behind_tests (table_verdict (placing nodes place) x words room) (length (encode nodes))
+table-sized nodes place x words room size v a b p =
+    ap (λ (u : Verdict). behind_tests u size) p ∙ ap (λ (n : ℕ). behind_tests (place_verdict x room n place) n) b
+    ∙ sym (ap (λ (u : Verdict). behind_tests u (length (encode nodes))) (table-tests nodes place x words room ∙ ap (λ (u : Verdict). first u (place_verdict x room (length (encode nodes)) place)) a))
 
 -- a table that passed its tests
-pub record NewTable (nodes : List Node) (place : DiscRegion) (image : List ℕ) (words room size : ℕ) : Type 0 where
-  pub passed : table_verdict_in (placing nodes place) image words room ≡ Ok tt
+pub record NewTable (nodes : List Node) (place : DiscRegion) (image : List ℕ) (x : Disc) (words room size : ℕ) : Type 0 where
+  pub passed : table_verdict (placing nodes place) x words room ≡ Ok tt
   pub length-is : size ≡ length (encode nodes)
   pub small : length (encode nodes) ≤ 2 ^ 24
   pub held : length (encode nodes) ≤ room
   pub fits : TableFits (length image) room (fst_offset image) (fst_size image) size
 
-pub new-table : (nodes : List Node) (place : DiscRegion) (image : List ℕ) (words room size : ℕ) (r : Result ℕ Refusal) → OpenImage image words →
-    r ≡ behind_tests (table_verdict_in (placing nodes place) image words room) (length (encode nodes)) → r ≡ Ok size → NewTable nodes place image words room size
-new-table nodes place image words room size r known e f =
-    let p = tests-passed (table_verdict_in (placing nodes place) image words room) (length (encode nodes)) size (sym e ∙ f) in
-    let q = table-passed nodes place image words room p.0 in
-    let t : TableFits (length image) room (fst_offset image) (fst_size image) (length (encode nodes)) = place-fits image words known room (length (encode nodes)) place q.1 in
+pub new-table : (nodes : List Node) (place : DiscRegion) (image : List ℕ) (x : Disc) (words room size : ℕ) (r : Result ℕ Refusal) → OpenImage image words → disc_of image ≡ x →
+    r ≡ behind_tests (table_verdict (placing nodes place) x words room) (length (encode nodes)) → r ≡ Ok size → NewTable nodes place image x words room size
+new-table nodes place image x words room size r known same e f =
+    let p = tests-passed (table_verdict (placing nodes place) x words room) (length (encode nodes)) size (sym e ∙ f) in
+    let q = table-passed nodes place x words room p.0 in
+    let t : TableFits (length image) room (fst_offset image) (fst_size image) (length (encode nodes)) = place-fits image words known x same room (length (encode nodes)) place q.1 in
     record { passed = p.0; length-is = sym p.1; small = q.0; held = t.held; fits = rw (← p.1) t }

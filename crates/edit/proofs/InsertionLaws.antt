@@ -20,8 +20,8 @@ use Rattle.tree.proofs.Laws.Renumbered.{directory-is}
 use Rattle.tree.proofs.Laws.RoundTrip.{within-limits}
 use Rattle.tree.proofs.Laws.WellNested.{next-bounds}
 use Rattle.edits.specs.Change.{change}
-use Rattle.edits.specs.Edits.{table_only, new_number, is_found, insert_verdict, planned}
-use Rattle.opened.specs.Inner.Disc.{Disc}
+use Rattle.edits.specs.Edits.{table_only, new_number, is_found, insert_verdict, planned, plan_of}
+use Rattle.opened.specs.Inner.Disc.{Opened}
 use Rattle.edit.specs.declared.decision.Decision.{Decision}
 use Rattle.edit.specs.Inner.Decision.{Decides}
 use Rattle.edit.proofs.Decisions.{behind-passed, behind-refused}
@@ -31,7 +31,7 @@ use Rattle.edit.proofs.TableChanges.{unbuilt-decides}
 use Rattle.table_writing.specs.Inner.Kind.{kind_is_directory}
 use Rattle.table_writing.specs.declared.kind.Kind.{Kind}
 use Rattle.table_writing.specs.declared.kind.Kind.TheVariants as kind
-use Rattle.edit.specs.Inner.Insertion.{plan_inserted}
+use Rattle.edit.specs.Inner.Insertion.{insertion}
 
 not-off : (t : Bool) → not t ≡ false → t ≡ true
 not-off true e = refl
@@ -55,37 +55,37 @@ number-small nodes words p w l dir =
 
 -- ---- the plan: what is added, behind the tests
 
-module _ (k : Kind) (d : Disc) (p : ℕ) (nm : List ℕ) (v : Verdict) (judged : v ≡ insert_verdict d.nodes p nm) where
-  plan-is : plan_inserted k d.nodes p nm ≡ planned (insert_verdict d.nodes p nm) (change (new_number d.nodes p) (table_only (added d.nodes (kind_is_directory k) p nm)))
+module _ (k : Kind) (d : Opened) (p : ℕ) (nm : List ℕ) (v : Verdict) (judged : v ≡ insert_verdict d.disc.nodes p nm) where
+  plan-is : plan_of (insertion k p nm) d.disc ≡ planned (insert_verdict d.disc.nodes p nm) (change (new_number d.disc.nodes p) (table_only (added d.disc.nodes (kind_is_directory k) p nm)))
   plan-is = go k
     where
-      go : (x : Kind) → plan_inserted x d.nodes p nm ≡ planned (insert_verdict d.nodes p nm) (change (new_number d.nodes p) (table_only (added d.nodes (kind_is_directory x) p nm)))
+      go : (x : Kind) → plan_of (insertion x p nm) d.disc ≡ planned (insert_verdict d.disc.nodes p nm) (change (new_number d.disc.nodes p) (table_only (added d.disc.nodes (kind_is_directory x) p nm)))
       go kind.Directory = refl
       go kind.File = refl
 
-  pub tests-refuse : (room : ℕ) (bytes : List ℕ) (c : Refusal) → v ≡ Err c → Decides (plan_inserted k d.nodes p nm) d room bytes (Err c)
-  tests-refuse room bytes c e image m = rw plan-is (behind-refused image d.words room bytes (insert_verdict d.nodes p nm) _ c (sym judged ∙ e))
+  pub tests-refuse : (room : ℕ) (bytes : List ℕ) (c : Refusal) → v ≡ Err c → Decides (plan_of (insertion k p nm) d.disc) d room bytes (Err c)
+  tests-refuse room bytes c e image m = rw plan-is (behind-refused image d.disc d.words room bytes (insert_verdict d.disc.nodes p nm) _ c (sym judged ∙ e))
 
   module _ (passed : v ≡ Ok tt) where
     abbrev N : List Node
-    N = added d.nodes (kind_is_directory k) p nm
+    N = added d.disc.nodes (kind_is_directory k) p nm
 
-    pub allowed : IsDirectory d.nodes p × IsGoodName nm
-    allowed = insert-allows d.nodes p nm (sym judged ∙ passed)
+    pub allowed : IsDirectory d.disc.nodes p × IsGoodName nm
+    allowed = insert-allows d.disc.nodes p nm (sym judged ∙ passed)
 
-    pub tests-pass : (room : ℕ) (bytes : List ℕ) (r : Result Decision Refusal) → Decides (change (new_number d.nodes p) (table_only N)) d room bytes r → Decides (plan_inserted k d.nodes p nm) d room bytes r
-    tests-pass room bytes r h image m = rw plan-is (behind-passed image d.words room bytes (insert_verdict d.nodes p nm) _ r (sym judged ∙ passed) (h image m))
+    pub tests-pass : (room : ℕ) (bytes : List ℕ) (r : Result Decision Refusal) → Decides (change (new_number d.disc.nodes p) (table_only N)) d room bytes r → Decides (plan_of (insertion k p nm) d.disc) d room bytes r
+    tests-pass room bytes r h image m = rw plan-is (behind-passed image d.disc d.words room bytes (insert_verdict d.disc.nodes p nm) _ r (sym judged ∙ passed) (h image m))
 
-    module _ (w : IsWellFormed d.nodes) (room : ℕ) (s after : List ℕ) (held : length s ≡ room) (c : Refusal) where
+    module _ (w : IsWellFormed d.disc.nodes) (room : ℕ) (s after : List ℕ) (held : length s ≡ room) (c : Refusal) where
       -- the tree as it is could not be built
-      pub not-started : IsBuilt d.nodes d.words s s (Err c) → Decides (plan_inserted k d.nodes p nm) d room after (Err c)
+      pub not-started : IsBuilt d.disc.nodes d.words s s (Err c) → Decides (plan_of (insertion k p nm) d.disc) d room after (Err c)
       not-started b =
           rw (← held)
-          (tests-pass (length s) after (Err c) (unbuilt-decides d.nodes N d (new_number d.nodes p) s after c (bigger-added d.nodes (kind_is_directory k) p nm w allowed.0 allowed.1) b))
+          (tests-pass (length s) after (Err c) (unbuilt-decides d.disc.nodes N d (new_number d.disc.nodes p) s after c (bigger-added d.disc.nodes (kind_is_directory k) p nm w allowed.0 allowed.1) b))
 
       -- nor with the new entry
-      pub not-grown : (T : List Node) (words : ℕ) → T ≡ d.nodes → words ≡ d.words → IsBuilt (added T (kind_is_directory k) p nm) words s s (Err c) → Decides (plan_inserted k d.nodes p nm) d room after (Err c)
+      pub not-grown : (T : List Node) (words : ℕ) → T ≡ d.disc.nodes → words ≡ d.words → IsBuilt (added T (kind_is_directory k) p nm) words s s (Err c) → Decides (plan_of (insertion k p nm) d.disc) d room after (Err c)
       not-grown T words e l b =
           rw (← held)
           (tests-pass (length s) after (Err c)
-          (unbuilt-decides N N d (new_number d.nodes p) s after c (bigger-same N (bigger-added d.nodes (kind_is_directory k) p nm w allowed.0 allowed.1).well) (rw (e, l) at b)))
+          (unbuilt-decides N N d (new_number d.disc.nodes p) s after c (bigger-same N (bigger-added d.disc.nodes (kind_is_directory k) p nm w allowed.0 allowed.1).well) (rw (e, l) at b)))

@@ -13,7 +13,7 @@ pub mod Files
 pub mod FillOutcomes
 pub mod Images
 pub mod InsertionLaws
-pub mod Judged
+pub mod Lists
 pub mod Outcomes
 pub mod Places
 pub mod Plans

@@ -25,9 +25,9 @@ use Rattle.space.specs.declared.region.DiscRegion.{DiscRegion}
 use Rattle.space.specs.Used.{end_of}
 use Rattle.space.specs.MaxRegionSize.{max_region_size}
 use Rattle.space.specs.Allocate.{allocation_of}
-use Rattle.opened.specs.Opening.{nodes_in, region_of, free_space_of}
+use Rattle.opened.specs.Opening.{nodes_in, region_of, free_space_of, disc_of}
 use Rattle.opened.specs.Inner.Prepared.{OpenImage}
-use Rattle.edits.specs.Change.{Change, table_verdict_in, Plan, refused, nothing, change, filled}
+use Rattle.edits.specs.Change.{Change, table_verdict, Plan, refused, nothing, change, filled}
 use Rattle.edits.specs.Edits.{overlaps_itself, relocate_verdict, relocated, resized, planned, plan_elsewhere, plan_sized, plan_verdict, plan_tree}
 use Rattle.edits.proofs.Laws.PlaceTests.{place-passed}
 use Rattle.edit.specs.Inner.Files.{IsFile}
@@ -58,9 +58,9 @@ record Lies (image : List ℕ) (c : Change) (n : ℕ) : Type 0 where
   apart : 0 < n → 0 < c.lost.size → (c.place.offset + n ≤ c.lost.offset) ⊎ (end_of c.lost ≤ c.place.offset)
 
 -- the same of the numbers that are written
-clear : (image : List ℕ) (c : Change) (n words room size : ℕ) (bytes : List ℕ) (w : Writing) → Lies image c n → table_verdict_in c image words room ≡ Ok tt → span bytes 0 size ≡ encode c.nodes → size ≤ length bytes →
+clear : (image : List ℕ) (c : Change) (n words room size : ℕ) (bytes : List ℕ) (w : Writing) → Lies image c n → table_verdict c (disc_of image) words room ≡ Ok tt → span bytes 0 size ≡ encode c.nodes → size ≤ length bytes →
     c ≡ change_with c.nodes w → Clear image size w n
-unfolding table_verdict_in
+unfolding table_verdict
 clear image c n words room size bytes w l v t s e =
     let p : c.place ≡ w.place = ap (λ (x : Change). x.place) e in
     let q : c.kept ≡ w.kept = ap (λ (x : Change). x.kept) e in
@@ -136,12 +136,12 @@ module _ (image : List ℕ) (words : ℕ) (known : OpenImage image words) (k : �
   never-clip bytes number at = sized (λ (x : Plan). Carries (Ok (decision.Clip number at)) bytes x → ⊥) (λ e h. h) (λ c h. h) (λ c l g h. h)
 
   -- and a change that passes its tests can be written behind the clip
-  pub clip-clear : (room number size : ℕ) (bytes clip : List ℕ) (w : Writing) → size ≤ length bytes → Carries (Ok (decision.Write number size w)) bytes p → plan_verdict p image words room ≡ Ok tt →
+  pub clip-clear : (room number size : ℕ) (bytes clip : List ℕ) (w : Writing) → size ≤ length bytes → Carries (Ok (decision.Write number size w)) bytes p → plan_verdict p (disc_of image) words room ≡ Ok tt →
       Clear image size w n × ((region_of (get_or (plan_tree p (nodes_in image)) k none)).offset ≡ w.place.offset) × Carries (Ok (decision.Write k size (uncopied w))) bytes (filled k clip p)
   clip-clear room number size bytes clip w held =
       sized
       (λ (x : Plan).
-      Carries (Ok (decision.Write number size w)) bytes x → plan_verdict x image words room ≡ Ok tt → Clear image size w n × ((region_of (get_or (plan_tree x (nodes_in image)) k none)).offset ≡ w.place.offset) × Carries (Ok (decision.Write k size (uncopied w))) bytes (filled k clip x))
+      Carries (Ok (decision.Write number size w)) bytes x → plan_verdict x (disc_of image) words room ≡ Ok tt → Clear image size w n × ((region_of (get_or (plan_tree x (nodes_in image)) k none)).offset ≡ w.place.offset) × Carries (Ok (decision.Write k size (uncopied w))) bytes (filled k clip x))
       (λ e h. absurd h) (λ c h. absurd h)
       (λ c l g h v. (
         clear image c n words room size bytes w l v h.table held h.change,

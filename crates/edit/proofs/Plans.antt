@@ -24,7 +24,7 @@ use Rattle.edits.specs.Edits.{Made, stopped, made, make, table_only, planned, pl
 use Rattle.edits.specs.Inner.Troubles.{made_verdict, trouble_of}
 use Rattle.edits.proofs.Laws.Troubles.{make-trouble}
 use Rattle.edits.proofs.Laws.MadeTree.{make-grows}
-use Rattle.opened.specs.Inner.Disc.{Disc}
+use Rattle.opened.specs.Inner.Disc.{Opened}
 use Rattle.edit.specs.declared.decision.Decision.{Decision}
 use Rattle.edit.specs.Inner.Decision.{Decides}
 use Rattle.table_writing.specs.declared.growing.Growing.{Growing}
@@ -36,9 +36,9 @@ use Rattle.edit.specs.Inner.Walk.{path_trouble, path_verdict}
 use Rattle.edit.specs.Inner.Making.{made_tree, made_entry, Reaches}
 use Rattle.edit.proofs.Turns.{all_made}
 
-module _ (d : Disc) (start : ℕ) (path : List ℕ) where
+module _ (d : Opened) (start : ℕ) (path : List ℕ) where
   abbrev nodes : List Node
-  nodes = d.nodes
+  nodes = d.disc.nodes
 
   abbrev whole : Made
   whole = make nodes [] start false (components path)
@@ -59,10 +59,10 @@ module _ (d : Disc) (start : ℕ) (path : List ℕ) where
 
   pub path-refused : (room : ℕ) (bytes : List ℕ) (c : Refusal) → path_verdict nodes start path ≡ Err c → Decides plan d room bytes (Err c)
   unfolding path_verdict plan_make_directories
-  path-refused room bytes c e image m = refused-decided image d.words room bytes plan c (go (ltb 1024 (length path)) (leb (length nodes) start) whole e)
+  path-refused room bytes c e image m = refused-decided image d.disc d.words room bytes plan c (go (ltb 1024 (length path)) (leb (length nodes) start) whole e)
     where
       go : (a b : Bool) (x : Made) → refuse a LimitOrMemory (refuse b NoSuchEntry (made_verdict x)) ≡ Err c →
-          plan_verdict (planned (refuse a LimitOrMemory (refuse b NoSuchEntry (Ok tt))) (plan_made x)) image d.words room ≡ Err c
+          plan_verdict (planned (refuse a LimitOrMemory (refuse b NoSuchEntry (Ok tt))) (plan_made x)) d.disc d.words room ≡ Err c
       go true b x q = q
       go false true x q = q
       go false false (stopped d) q = q

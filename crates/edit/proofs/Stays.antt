@@ -31,7 +31,7 @@ module _ (image : List ℕ) (words : ℕ) (known : OpenImage image words) (k : �
   old-lies z = rw here at (file-lies image words known k (rw here z))
 
   grows-below : old.offset + max_region_size old.offset old.size (free_space_of image) ≤ max (end_of old) (disc_end image)
-  unfolding free_space_of used_in behind_table
+  unfolding used_in behind_table
   grows-below = (file-largest (disc_end image) (table_end image) (behind_table image) old (inr (rw here at (in-files (nodes_in image) k f.inside)))).below
 
   -- LAW: where a file stays, its n bytes lie behind the table and on the disc

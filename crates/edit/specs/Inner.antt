@@ -5,6 +5,5 @@ pub mod Decision
 pub mod Files
 pub mod Filling
 pub mod Insertion
-pub mod Judged
 pub mod Making
 pub mod Walk

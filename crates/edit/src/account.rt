@@ -19,7 +19,7 @@ fn enter(
     old: DiscRegion,
     new: DiscRegion,
 ) -> Verdict
-    requires { disc.now.start + size ≤ disc.now.end }
+    requires { disc.now.disc.start + size ≤ disc.now.disc.end }
     ensures { OfUsed disc.now (λ image behind.
         moved result totals.new ≡ entered_as image behind totals.old size old new) }
 {
@@ -36,7 +36,7 @@ fn enter(
 // The record after an edit that decides on this; where the table stays and no file moves, largest free region
 // and used bytes are as they were.
 fn enter_decision(disc: &OpenDisc<'_>, decision: Decision, totals: &mut Totals) -> Verdict
-    requires { OnDisc disc.now (Ok decision) }
+    requires { OnDisc disc.now.disc (Ok decision) }
     ensures { OfUsed disc.now (λ image behind.
         moved result totals.new ≡ entered_for image behind decision totals.old) }
 {
@@ -60,7 +60,7 @@ pub fn account(
     decided: Result<Decision, Refusal>,
     totals: &mut Totals,
 ) -> Result<Decision, Refusal>
-    requires { OnDisc disc.now decided }
+    requires { OnDisc disc.now.disc decided }
     ensures { OfUsed disc.now (λ image behind.
         accounted result totals.new ≡ account_of image behind decided totals.old) }
 {

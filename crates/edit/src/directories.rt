@@ -3,7 +3,8 @@
 
 ghost use Rattle.std.specs.Prelude.{◌≡◌, length};
 ghost use Rattle.tree.specs.Inner.WellFormed.{IsWellFormed};
-ghost use Rattle.edits.specs.Edits.{plan_make_directories};
+ghost use Rattle.edits.specs.Edits as edits_of;
+ghost use Rattle.edits.specs.Edits.{plan_of};
 ghost use Rattle.edit.specs.Inner.Decision.{Decides};
 ghost use Rattle.edit.specs.Inner.Walk.{path_verdict};
 
@@ -17,13 +18,14 @@ use table_writing::Growing;
 // How many bytes a path may have.
 const PATH_LIMIT: usize = 1024;
 
-// Kept: a path and the entry that it starts from go side by side, as users give them; both calls use them once.
+// Kept: a path and the entry that it starts from go side by side, as users give them; both calls use them
+// once.
 // The tests that need no memory: a path over the limit 9, then 15, and the troubles along the path 13, 17,
 // 18, 12.
 #[tactic(auto, unfolding(crate::specs::Inner::Walk::path_verdict))]
 fn check_path(disc: &OpenDisc<'_>, start: u32, path: &[u8]) -> Verdict
-    ensures answer { result ≡ path_verdict disc.now.nodes start path.now }
-    ensures well_formed { IsWellFormed disc.now.nodes }
+    ensures answer { result ≡ path_verdict disc.now.disc.nodes start path.now }
+    ensures well_formed { IsWellFormed disc.now.disc.nodes }
 {
     let table = Table::new(disc.table());
     if PATH_LIMIT < path.len() {
@@ -41,8 +43,8 @@ pub fn make_directories(
     start: u32,
     path: &[u8],
 ) -> Result<Decision, Refusal>
-    ensures { Decides (plan_make_directories disc.now.nodes start path.now)
-        disc.now (length bytes.old) bytes.new result }
+    ensures { let asked = edits_of.make_directories start path.now in
+        Decides (plan_of asked disc.now.disc) disc.now (length bytes.old) bytes.new result }
 {
     check_path(disc, start, path)?;
     let size = table_only::start_table(disc, bytes)?;

@@ -1,7 +1,7 @@
 // What a fill decides on: the file is resized to the clip, and then the clip is the file.
 ghost use Rattle.std.specs.Prelude.{◌≡◌, length};
-ghost use Rattle.edits.specs.Edits.{plan_fill};
-ghost use Rattle.opened.specs.Inner.Disc.{free_of};
+ghost use Rattle.edits.specs.Edits as edits_of;
+ghost use Rattle.edits.specs.Edits.{plan_of};
 ghost use Rattle.edit.specs.Inner.Decision.{DecidesWith};
 ghost use Rattle.edit.specs.Inner.Filling as filling_of;
 
@@ -39,7 +39,7 @@ pub fn fill(
     number: u32,
     clip: &[u8],
 ) -> Result<Decision, Refusal>
-    ensures { let plan = plan_fill (free_of disc.now) disc.now.nodes number clip.now in
+    ensures { let plan = plan_of (edits_of.fill_file number clip.now) disc.now.disc in
         DecidesWith clip.now plan disc.now (length bytes.old) bytes.new result }
 {
     let file = finding::file_on_disc(disc, number)?;

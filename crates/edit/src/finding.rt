@@ -41,7 +41,7 @@ pub fn file_at(table: &Table<'_>, number: u32) -> Result<File, Refusal>
 
 /// The file of that number on an open disc: 15 and 16, as `file_at`.
 pub fn file_on_disc(disc: &OpenDisc<'_>, number: u32) -> Result<File, Refusal>
-    ensures answer { let nodes = disc.now.nodes in
+    ensures answer { let nodes = disc.now.disc.nodes in
         result ≡ behind_tests (file_verdict nodes number) (file_in nodes number) }
     ensures file { IfOk result (IsFileOf disc.now) }
 {

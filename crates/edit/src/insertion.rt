@@ -1,8 +1,9 @@
 // What an insert of a file or a directory decides on.
 
 ghost use Rattle.std.specs.Prelude.{length};
+ghost use Rattle.edits.specs.Edits.{plan_of};
 ghost use Rattle.edit.specs.Inner.Decision.{Decides};
-ghost use Rattle.edit.specs.Inner.Insertion.{plan_inserted};
+ghost use Rattle.edit.specs.Inner.Insertion.{insertion};
 
 use crate::decision::Decision;
 use crate::new_entry::NewEntry;
@@ -15,8 +16,8 @@ use table_writing::Growing;
 /// An empty file or an empty directory as the last child of a directory: 15, 13, 17, 19, 12, then the tests
 /// of the new table, which stands in the bytes where it is decided on.
 pub fn insert(disc: &OpenDisc<'_>, bytes: &mut [u8], new: NewEntry<'_>) -> Result<Decision, Refusal>
-    ensures { Decides (plan_inserted new.entry.kind disc.now.nodes new.entry.parent new.entry.name.now)
-        disc.now (length bytes.old) bytes.new result }
+    ensures { let asked = insertion new.entry.kind new.entry.parent new.entry.name.now in
+        Decides (plan_of asked disc.now.disc) disc.now (length bytes.old) bytes.new result }
 {
     new.check(&Table::new(disc.table()))?;
     let size = table_only::start_table(disc, bytes)?;

@@ -1,4 +1,5 @@
-// The edits of an image: each is decided on an open disc, judged, entered in the record that is lent, and carried out.
+// The edits of an image: each is decided on an open disc, judged, entered in the record that is lent, and
+// carried out.
 #![tactic(auto)]
 
 mod account;
@@ -10,6 +11,7 @@ mod file;
 mod filling;
 mod finding;
 mod insertion;
+mod list;
 mod making;
 mod moving;
 mod new_entry;
@@ -23,5 +25,8 @@ mod walk;
 pub use calls::{
     fill_file, insert_directory, insert_file, make_directories, move_file, resize_file, rewrite,
 };
+pub use decision::{Decision, Span, Writing};
+pub use list::apply_all;
 pub use new_entry::NewEntry;
-pub use pipeline::{Edit, done, run};
+pub use pipeline::{Edit, decide, done, run};
+pub use table_writing::Kind;

@@ -3,8 +3,9 @@ ghost use Rattle.std.specs.Prelude.{◌≡◌, List, ℕ, length};
 ghost use Rattle.tree.specs.Insert as insert_of;
 ghost use Rattle.edits.specs.Change.{change};
 ghost use Rattle.edits.specs.Edits as edits_of;
-ghost use Rattle.edits.specs.Edits.{table_only, planned, relocate_verdict, relocated, plan_move};
-ghost use Rattle.opened.specs.Inner.Disc.{free_of, Means};
+ghost use Rattle.edits.specs.Edits.{planned, relocate_verdict, relocated, plan_of};
+ghost use Rattle.opened.specs.Opening.{free_of};
+ghost use Rattle.opened.specs.Inner.Disc.{Means};
 ghost use Rattle.edit.specs.Inner.Decision.{InImage, change_with, Decides};
 ghost use Rattle.edit.specs.Inner.Files.{IsFile, IsFileOf, relocation_of};
 
@@ -16,11 +17,12 @@ use opened::OpenDisc;
 use refusal::{Refusal, Verdict};
 use space::DiscRegion;
 
-// Kept: the disc, which is read, and the bytes, which are written, go side by side here and in `resizing`: each contract names the two, and a
-// value that held both would say nothing more.
+// Kept: the disc, which is read, and the bytes, which are written, go side by side here and in `resizing`:
+// each contract names the two, and a value that held both would say nothing more.
 /// The tree as it is, written anew; refused by the tests of its table alone.
 pub fn rewrite(disc: &OpenDisc<'_>, bytes: &mut [u8]) -> Result<Decision, Refusal>
-    ensures { Decides (change 0 (table_only disc.now.nodes)) disc.now (length bytes.old) bytes.new result }
+    ensures { let plan = plan_of edits_of.rewrite disc.now.disc in
+        Decides plan disc.now (length bytes.old) bytes.new result }
 {
     let size = place::check_table(disc, bytes.len(), Writing::NOTHING.place)?;
     place::write_table(disc.table(), bytes);
@@ -38,10 +40,12 @@ pub(crate) fn set_place(
     number: u32,
     writing: Writing,
 ) -> Result<Decision, Refusal>
-    requires is_file { IsFile disc.now.nodes number }
+    requires is_file { IsFile disc.now.disc.nodes number }
     requires inside { (image : List ℕ) → Means image disc.now → InImage (length image) writing }
-    ensures { let nodes = insert_of.set_place number writing.place.offset writing.place.size disc.now.nodes in
-        Decides (change number (change_with nodes writing)) disc.now (length bytes.old) bytes.new result }
+    ensures { let place = writing.place in
+        let nodes = insert_of.set_place number place.offset place.size disc.now.disc.nodes in
+        let plan = change number (change_with nodes writing) in
+        Decides plan disc.now (length bytes.old) bytes.new result }
 {
     let place = writing.place;
     let size = place::check_table(disc, bytes.len(), place)?;
@@ -63,7 +67,7 @@ fn overlaps_itself(old: DiscRegion, new: DiscRegion) -> bool
 
 // The tests of a new place: 20, then 21.
 fn check_relocate(disc: &OpenDisc<'_>, old: DiscRegion, new: DiscRegion) -> Verdict
-    ensures { result ≡ relocate_verdict (free_of disc.now) old new }
+    ensures { result ≡ relocate_verdict (free_of disc.now.disc) old new }
 {
     if overlaps_itself(old, new) {
         return Err(Refusal::OverlappingMove);
@@ -97,8 +101,9 @@ pub(crate) fn relocate(
     new: DiscRegion,
 ) -> Result<Decision, Refusal>
     requires { IsFileOf disc.now file }
-    ensures { let moved = change file.number (relocated disc.now.nodes file.number file.place new) in
-        let plan = planned (relocate_verdict (free_of disc.now) file.place new) moved in
+    ensures { let nodes = disc.now.disc.nodes in
+        let moved = change file.number (relocated nodes file.number file.place new) in
+        let plan = planned (relocate_verdict (free_of disc.now.disc) file.place new) moved in
         Decides plan disc.now (length bytes.old) bytes.new result }
 {
     check_relocate(disc, file.place, new)?;
@@ -113,7 +118,7 @@ pub fn move_file(
     number: u32,
     offset: u32,
 ) -> Result<Decision, Refusal>
-    ensures { let plan = plan_move (free_of disc.now) disc.now.nodes number offset in
+    ensures { let plan = plan_of (edits_of.move_file number offset) disc.now.disc in
         Decides plan disc.now (length bytes.old) bytes.new result }
 {
     let file = file_on_disc(disc, number)?;

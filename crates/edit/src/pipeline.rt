@@ -1,9 +1,10 @@
 // One way through every edit: opened, decided, entered in the record that is lent, carried out.
-ghost use Rattle.std.specs.Prelude.{◌≡◌, length};
-ghost use Rattle.opened.specs.Opening.{opening};
+ghost use Rattle.std.specs.Prelude.{◌≡◌, Ok, length};
+ghost use Rattle.opened.specs.Opening.{opening, disc_of};
 ghost use Rattle.edits.specs.Edits as edits;
 ghost use Rattle.edits.specs.Edits.{planned, plan_of, numbered_as};
 ghost use Rattle.edits.specs.Promise.{lent, only_verdict, Edited};
+ghost use Rattle.ledger.specs.Runs.{Passable};
 ghost use Rattle.edit.specs.Inner.Accounting.{accounted, IsAccountedFor};
 ghost use Rattle.edit.specs.Inner.Decides.{edit_of, clip_of, IsEditDecided};
 
@@ -58,12 +59,8 @@ fn fill_file(
 }
 
 /// What an edit decides on, on an open disc: all its tests but the last, and the new table in the working
-/// bytes.
-pub fn decide_open(
-    disc: &OpenDisc<'_>,
-    bytes: &mut [u8],
-    edit: Edit<'_>,
-) -> Result<Decision, Refusal>
+/// bytes. No image is read, so that the disc may have been opened from the parts of one.
+pub fn decide(disc: &OpenDisc<'_>, bytes: &mut [u8], edit: Edit<'_>) -> Result<Decision, Refusal>
     ensures { let clip = clip_of edit.entry in
         IsEditDecided (edit_of edit.entry) disc.now (length bytes.old) bytes.new clip result }
 {
@@ -80,23 +77,25 @@ pub fn decide_open(
 }
 
 // What is decided on, entered in the record: 25 comes last.
-// Kept: `image`, `words`, `bytes`, `totals` one by one, here and below (N): each is written or zeroed apart from the others, and a
-// struct of four `&mut` would have each contract name the loan of each field.
-fn decide(
+// Kept: `image`, `words`, `bytes`, `totals` one by one, here and below (N): each is written or zeroed apart
+// from the others, and a struct of four `&mut` would have each contract name the loan of each field.
+fn decide_image(
     image: &[u8],
     words: &mut [u32],
     bytes: &mut [u8],
     totals: &mut Totals,
     edit: Edit<'_>,
 ) -> Result<Decision, Refusal>
-    ensures { let opened = opening image.now (length words.old) in
-        let plan = planned opened (plan_of (edit_of edit.entry) image.now) in
+    ensures accounted { let opened = opening image.now (length words.old) in
+        let plan = planned opened (plan_of (edit_of edit.entry) (disc_of image.now)) in
         let clip = clip_of edit.entry in
         IsAccountedFor plan image.now (length words.old) (length bytes.old) bytes.new clip
         totals.old (accounted result totals.new) }
+    ensures passable { let opened = opening image.now (length words.old) in
+        opened ≡ Ok tt → Passable (edit_of edit.entry) }
 {
     let disc = OpenDisc::of_image(image, words)?;
-    let decided = decide_open(&disc, bytes, edit);
+    let decided = decide(&disc, bytes, edit);
     account::account(&disc, decided, totals)
 }
 
@@ -110,13 +109,15 @@ pub fn run(
     totals: &mut Totals,
     edit: Edit<'_>,
 ) -> Result<u32, Refusal>
-    ensures { let before = lent image.old words.old bytes.old totals.old in
+    ensures edited { let before = lent image.old words.old bytes.old totals.old in
         let after = lent image.new words.new bytes.new totals.new in
         Edited numbered_as (edit_of edit.entry) before after result }
+    ensures passable { let opened = opening image.old (length words.old) in
+        opened ≡ Ok tt → Passable (edit_of edit.entry) }
 {
     let words = Lent::new(words);
     let bytes = Lent::new(bytes);
-    let decided = decide(image, words.memory, bytes.memory, totals, edit);
+    let decided = decide_image(image, words.memory, bytes.memory, totals, edit);
     decision::finish(image, bytes.memory, edit.clip(), decided)
 }
 

@@ -3,7 +3,8 @@ ghost use Rattle.std.specs.Prelude.{◌≡◌, ◌≤◌, ◌^◌, length, IfOk}
 ghost use Rattle.endian.specs.Bytes.{put};
 ghost use Rattle.tree.specs.Table.{count, nodes_of, encode};
 ghost use Rattle.table_writing.specs.Inner.Valid.{IsValid};
-ghost use Rattle.edit.specs.Inner.Judged.{place_verdict, judged_size};
+ghost use Rattle.edits.specs.Change.{place_verdict};
+ghost use Rattle.edit.specs.Inner.Decision.{judged_size};
 
 use opened::OpenDisc;
 use refusal::{Refusal, Verdict};
@@ -12,9 +13,9 @@ use space::DiscRegion;
 /// The tests of a table of `size` bytes, where `room` working bytes are lent: 9 if these are too few, 26 if
 /// it is above the stated maximum, 21 if there is no room for it behind the old table, or before the edited
 /// file's new place.
-#[tactic(auto, unfolding(crate::specs::Inner::Judged::place_verdict))]
+#[tactic(auto, unfolding(edits::specs::Change::place_verdict))]
 pub fn check_place(disc: &OpenDisc<'_>, room: usize, size: usize, place: DiscRegion) -> Verdict
-    ensures { result ≡ place_verdict disc.now room size place }
+    ensures { result ≡ place_verdict disc.now.disc room size place }
 {
     if room < size {
         return Err(Refusal::LimitOrMemory);
@@ -40,8 +41,8 @@ pub fn check_place(disc: &OpenDisc<'_>, room: usize, size: usize, place: DiscReg
 /// differs in a file's place only has the same size and the same answer.
 pub fn check_table(disc: &OpenDisc<'_>, room: usize, place: DiscRegion) -> Result<usize, Refusal>
     ensures answer { result ≡ judged_size disc.now room place }
-    ensures held { IfOk result (λ _. length (encode disc.now.nodes) ≤ room) }
-    ensures small { IfOk result (λ _. length (encode disc.now.nodes) ≤ 2 ^ 24) }
+    ensures held { IfOk result (λ _. length (encode disc.now.disc.nodes) ≤ room) }
+    ensures small { IfOk result (λ _. length (encode disc.now.disc.nodes) ≤ 2 ^ 24) }
 {
     let size = table_writing::measure(disc.table())?;
     check_place(disc, room, size, place)?;

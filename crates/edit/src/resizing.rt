@@ -3,8 +3,9 @@ ghost use Rattle.std.specs.Prelude.{◌≡◌, ◌||◌, length, ◌==◌, nat_l
 ghost use Rattle.space.specs.MaxRegionSize.{max_region_size};
 ghost use Rattle.space.specs.Allocate.{allocation_of};
 ghost use Rattle.edits.specs.Change.{change};
-ghost use Rattle.edits.specs.Edits.{resized, plan_elsewhere, plan_resize, plan_sized};
-ghost use Rattle.opened.specs.Inner.Disc.{free_of};
+ghost use Rattle.edits.specs.Edits as edits_of;
+ghost use Rattle.edits.specs.Edits.{resized, plan_elsewhere, plan_sized, plan_of};
+ghost use Rattle.opened.specs.Opening.{free_of};
 ghost use Rattle.edit.specs.Inner.Decision.{Decides};
 ghost use Rattle.edit.specs.Inner.Files.{IsFileOf};
 
@@ -18,7 +19,7 @@ use space::DiscRegion;
 
 // Whether a file keeps its place: it gets smaller, or can grow there.
 fn stays(disc: &OpenDisc<'_>, place: DiscRegion, new_size: u32) -> bool
-    ensures { let most = max_region_size place.offset place.size (free_of disc.now) in
+    ensures { let most = max_region_size place.offset place.size (free_of disc.now.disc) in
         result ≡ (nat_le new_size place.size || nat_le new_size most) }
 {
     new_size <= place.size || new_size <= disc.max_region_size(place.offset, place.size)
@@ -32,7 +33,8 @@ fn resize_in_place(
     new_size: u32,
 ) -> Result<Decision, Refusal>
     requires { IsFileOf disc.now file }
-    ensures { let plan = change file.number (resized disc.now.nodes file.number file.place new_size) in
+    ensures { let nodes = disc.now.disc.nodes in
+        let plan = change file.number (resized nodes file.number file.place new_size) in
         Decides plan disc.now (length bytes.old) bytes.new result }
 {
     let old = file.place;
@@ -59,9 +61,9 @@ fn grow_elsewhere(
     new_size: u32,
 ) -> Result<Decision, Refusal>
     requires { IsFileOf disc.now file }
-    ensures { let free = free_of disc.now in
+    ensures { let free = free_of disc.now.disc in
         let region = allocation_of 0x8000 new_size free in
-        let plan = plan_elsewhere disc.now.nodes free file.number file.place new_size region in
+        let plan = plan_elsewhere disc.now.disc.nodes free file.number file.place new_size region in
         Decides plan disc.now (length bytes.old) bytes.new result }
 {
     let region = disc.allocate(new_size, 0x8000)?;
@@ -81,7 +83,8 @@ pub fn resize(
     new_size: u32,
 ) -> Result<Decision, Refusal>
     requires { IsFileOf disc.now file }
-    ensures { let plan = plan_sized (free_of disc.now) disc.now.nodes file.number file.place new_size in
+    ensures { let d = disc.now.disc in
+        let plan = plan_sized (free_of d) d.nodes file.number file.place new_size in
         Decides plan disc.now (length bytes.old) bytes.new result }
 {
     if new_size == file.place.size {
@@ -100,7 +103,7 @@ pub fn resize_file(
     number: u32,
     new_size: u32,
 ) -> Result<Decision, Refusal>
-    ensures { let plan = plan_resize (free_of disc.now) disc.now.nodes number new_size in
+    ensures { let plan = plan_of (edits_of.resize_file number new_size) disc.now.disc in
         Decides plan disc.now (length bytes.old) bytes.new result }
 {
     let file = file_on_disc(disc, number)?;

@@ -23,9 +23,9 @@ pub fn lent_words(disc: &OpenDisc<'_>) -> usize
 /// Writes the tree of the disc anew into the bytes, and gives the size of its table; 9 if its texts pass the
 /// limit or the bytes are too few.
 pub fn start_table(disc: &OpenDisc<'_>, bytes: &mut [u8]) -> Result<usize, Refusal>
-    ensures built { IsBuilt disc.now.nodes disc.now.words bytes.old bytes.new result }
+    ensures built { IsBuilt disc.now.disc.nodes disc.now.words bytes.old bytes.new result }
     ensures table { IfOk result (λ size. Stands bytes.new size disc.now.words) }
-    ensures tree { IfOk result (λ size. tree_in bytes.new size ≡ disc.now.nodes) }
+    ensures tree { IfOk result (λ size. tree_in bytes.new size ≡ disc.now.disc.nodes) }
 {
     let table = disc.table();
     let size = table_writing::measure(table)?;

@@ -1,5 +1,5 @@
--- What an accepted edit does to an image, and the tests that each edit which writes a table ends with (document 01, "Edits"; document 02, Point 7).
--- Assumes nothing: these are definitions.
+-- What an accepted edit does to an image, and the tests that each edit which writes a table ends with (RULES,
+-- Edits). Assumes nothing: these are definitions.
 use Rattle.std.specs.Prelude.{Ok, nat_lt}
 use Rattle.refusal.specs.Refusal.{Verdict}
 use Rattle.std.specs.Prelude.{ℕ, ◌+◌, ◌-◌, Bool, ◌&&◌, List, ◌++◌, length, replicate}
@@ -7,11 +7,11 @@ use Rattle.endian.specs.Bytes.{put, span, be32_bytes}
 use Rattle.refusal.specs.declared.Refusal.TheVariants.{LimitOrMemory, NotEnoughSpace, TableAboveMaximum}
 use Rattle.refusal.specs.Refusal.{refuse, first}
 use Rattle.header.specs.Fields.{fst_size_field}
-use Rattle.header.specs.Verdicts.{fst_offset, fst_size, fst_max_size}
+use Rattle.header.specs.Verdicts.{fst_offset, fst_size}
 use Rattle.tree.specs.Table.{Node, encode, limits}
 use Rattle.space.specs.declared.region.DiscRegion.{DiscRegion}
 use Rattle.space.specs.MaxRegionSize.{max_region_size}
-use Rattle.opened.specs.Opening.{free_space_of}
+use Rattle.opened.specs.Opening.{Disc, free_of}
 
 pub record Change : Type 0 where
   -- the tree that is written
@@ -24,43 +24,42 @@ pub record Change : Type 0 where
   -- zeroed after the table is written
   pub lost : DiscRegion
 
--- "zeros over a table's lost tail"
+-- the table, and zeros up to the old one's size
 abbrev pub padded : List ℕ → ℕ → List ℕ
 padded table size = table ++ replicate (size - length table) 0
 
--- `commit_file_tree`: the table at f, over one of that size, and "the new FST size in the header"
+-- the table at f, over one of that size, and its size in the header
 unfoldable pub with_table : ℕ → ℕ → List ℕ → List ℕ → List ℕ
 with_table f size table image = put (put image f (padded table size)) fst_size_field.at (be32_bytes (length table))
 
--- "Move copies the smaller of both sizes, writes the table, then zeroes the old place; a shrink zeroes the lost end after the table."
+-- in this order: the file's bytes at its new place, the table, zeros over what the file left or lost
 unfoldable pub written : Change → List ℕ → List ℕ
 written c image =
     put (with_table (fst_offset image) (fst_size image) (encode c.nodes) (put image c.place.offset (span image c.old.offset c.kept)))
     c.lost.offset (replicate c.lost.size 0)
 
--- document 02, Point 7: "If it is nonzero, no edit may write a larger table."
-abbrev pub above_maximum : List ℕ → ℕ → Bool
-above_maximum image size = nat_lt 0 (fst_max_size image) && nat_lt (fst_max_size image) size
+-- RULES, The stated maximum: 0 states none
+abbrev pub above_maximum : Disc → ℕ → Bool
+above_maximum d size = nat_lt 0 d.maximum && nat_lt d.maximum size
 
--- "A new table must fit the table's own `max_region_size`, taken from the free regions before the edit, and end at or before the edited
--- file's new nonempty place, else 21."
-abbrev pub room_verdict : List ℕ → ℕ → DiscRegion → Verdict
-room_verdict image size place =
-    refuse (nat_lt (max_region_size (fst_offset image) (fst_size image) (free_space_of image)) size) NotEnoughSpace
-    (refuse (nat_lt 0 place.size && nat_lt place.offset (fst_offset image + size)) NotEnoughSpace
+-- the free regions are those before the edit; the table ends no later than the file's new place begins, where
+-- that is not empty
+abbrev pub room_verdict : Disc → ℕ → DiscRegion → Verdict
+room_verdict d size place =
+    refuse (nat_lt (max_region_size d.start d.room (free_of d)) size) NotEnoughSpace
+    (refuse (nat_lt 0 place.size && nat_lt place.offset (d.start + size)) NotEnoughSpace
     (Ok tt))
 
--- "working bytes fewer than the new table's size (9), then the table's place (21)"; "26, new table above the maximum, tested just before the
--- table's 21"
-unfoldable pub place_verdict_in : List ℕ → ℕ → ℕ → DiscRegion → Verdict
-place_verdict_in image room size place =
-    refuse (nat_lt room size) LimitOrMemory
-    (refuse (above_maximum image size) TableAboveMaximum
-    (room_verdict image size place))
+-- RULES, The new table: working bytes, the stated maximum, room
+unfoldable pub place_verdict : Disc → ℕ → ℕ → DiscRegion → Verdict
+place_verdict d bytes size place =
+    refuse (nat_lt bytes size) LimitOrMemory
+    (refuse (above_maximum d size) TableAboveMaximum
+    (room_verdict d size place))
 
--- "Each edit that writes a table ends with the new tree's limits as at opening (entries, texts, working words, depth) and working bytes .."
-unfoldable pub table_verdict_in : Change → List ℕ → ℕ → ℕ → Verdict
-table_verdict_in c image words bytes = first (limits c.nodes words) (place_verdict_in image bytes (length (encode c.nodes)) c.place)
+-- RULES, The new table: the limits of opening hold for the new tree; then the table's place
+unfoldable pub table_verdict : Change → Disc → ℕ → ℕ → Verdict
+table_verdict c d words bytes = first (limits c.nodes words) (place_verdict d bytes (length (encode c.nodes)) c.place)
 
 -- what an edit comes to once the image is open: refused by its own tests, accepted with nothing to write, a change to be written, or
 -- one of these and then a clip written over a file. An edit that gives an entry's number carries it

@@ -1,5 +1,5 @@
--- The edits (document 01, "Edits"; the orders of their refusals: "Calls go on: .. insert 15, 13, 17, 19, 12; move 20, 21; resize 21, 20 .."
--- and "Make-directories gives the first trouble along the path, 12 last"; document 02, Points 4 and 6). Assumes nothing: these are definitions.
+-- The edits: their tests in order, and what they come to (RULES, Edits). Assumes nothing: these are
+-- definitions.
 use Rattle.std.specs.Prelude.{Result, Ok, Err, if◌then◌else◌, ◌==◌, nat_lt, nat_le, slice_index_or}
 use Rattle.refusal.specs.Refusal.{Verdict}
 use Rattle.std.specs.Prelude.{ℕ, ◌+◌, ◌-◌, ◌^◌, min, Bool, true, false, not, ◌&&◌, ◌||◌, List, [], ◌∷◌, length}
@@ -11,13 +11,14 @@ use Rattle.tree.specs.Table.{Node, none, plain, safe}
 use Rattle.tree.specs.Lookup.{is_directory, next_of, components, stays, goes_back, child_of}
 use Rattle.tree.specs.Insert.{insert_at, set_place, empty_file, empty_directory}
 use Rattle.space.specs.declared.region.DiscRegion.{DiscRegion}
+use Rattle.space.specs.Used.{no_region}
 use Rattle.space.specs.Free.{largest_size}
 use Rattle.space.specs.MaxRegionSize.{max_region_size}
 use Rattle.space.specs.Allocate.{allocation_of}
 use Rattle.space.specs.declared.totals.Totals.{Totals}
 use Rattle.space.specs.Totals.{totals_verdict, totals_moved}
-use Rattle.opened.specs.Opening.{opening, nodes_in, free_space_of, used_of, region_of}
-use Rattle.edits.specs.Change.{Change, written, table_verdict_in, Plan, refused, nothing, change, filled}
+use Rattle.opened.specs.Opening.{opening, nodes_in, free_space_of, used_of, region_of, Disc, disc_of, free_of}
+use Rattle.edits.specs.Change.{Change, written, table_verdict, Plan, refused, nothing, change, filled}
 
 -- an edit, with its numbers and its name, path or clip
 pub data Edit : Type 0 where
@@ -29,19 +30,16 @@ pub data Edit : Type 0 where
   fill_file : ℕ → List ℕ → Edit
   rewrite : Edit
 
-abbrev pub no_place : DiscRegion
-no_place = record { offset = 0; size = 0 }
-
 -- only the table is written
 abbrev pub table_only : List Node → Change
-table_only nodes = record { nodes = nodes; old = no_place; place = no_place; kept = 0; lost = no_place }
+table_only nodes = record { nodes = nodes; old = no_region; place = no_region; kept = 0; lost = no_region }
 
 -- a plan behind tests
 abbrev pub planned : Verdict → Plan → Plan
 planned (Ok _) p = p
 planned (Err c) p = refused (Err c)
 
--- ---- "Insert adds an empty directory or an empty file (offset 0, size 0) as last child"
+-- ---- inserts: the new entry is the last child, and a file has offset and size 0
 
 -- the number that a new last child of p gets
 abbrev pub new_number : List Node → ℕ → ℕ
@@ -52,7 +50,7 @@ abbrev pub is_found : Result ℕ Refusal → Bool
 is_found (Ok k) = true
 is_found (Err c) = false
 
--- the last three of "insert 15, 13, 17, 19, 12"
+-- 17, 19 and 12, which look at the parent
 abbrev pub child_verdict : List Node → ℕ → List ℕ → Verdict
 child_verdict nodes p nm =
     refuse (not (is_directory (slice_index_or nodes p none))) ExpectedDirectory
@@ -60,7 +58,7 @@ child_verdict nodes p nm =
     (refuse (not (plain nm)) InvalidNameByte
     (Ok tt)))
 
--- "insert 15, 13, 17, 19, 12"
+-- RULES, Insert: 15, 13, 17, 19, 12
 unfoldable pub insert_verdict : List Node → ℕ → List ℕ → Verdict
 insert_verdict nodes p nm =
     refuse (nat_le (length nodes) p) NoSuchEntry
@@ -72,7 +70,7 @@ plan_insert new nodes p nm =
     planned (insert_verdict nodes p nm)
     (change (new_number nodes p) (table_only (insert_at p (new (new_number nodes p)) nodes)))
 
--- ---- "An accepted make-directories walks its path by Lookup's rules, adding each missing directory as last child."
+-- ---- make-directories: a lookup that adds each directory which is missing, as the last child
 
 -- the tree so far, the entry where the walk stands, and whether a name of a made directory has a unit that no name may have
 pub data Made : Type 0 where
@@ -116,7 +114,7 @@ plan_make_directories nodes start path =
 abbrev pub file_verdict : List Node → ℕ → Verdict
 file_verdict nodes k = refuse (nat_le (length nodes) k) NoSuchEntry (refuse (is_directory (slice_index_or nodes k none)) ExpectedFile (Ok tt))
 
--- "20 means: new offset below old offset + old size, and new offset + new size above old offset"
+-- 20: the new place begins before the old one's end, and ends behind its start
 abbrev pub overlaps_itself : DiscRegion → DiscRegion → Bool
 overlaps_itself old new = nat_lt new.offset (old.offset + old.size) && nat_lt old.offset (new.offset + new.size)
 
@@ -130,7 +128,7 @@ relocated nodes k old new = record {
   lost = old;
 }
 
--- "A move's new place must be free, else 21; an empty file may go anywhere.": `max_region_size` of an empty place there
+-- 20 before 21: the new place must be free. An empty file goes anywhere. `max_region_size` of an empty place there
 abbrev pub relocate_verdict : List DiscRegion → DiscRegion → DiscRegion → Verdict
 relocate_verdict free old new =
     refuse (overlaps_itself old new) OverlappingMove
@@ -142,7 +140,7 @@ plan_move free nodes k to =
     let new : DiscRegion = record { offset = to; size = old.size } in
     planned (first (file_verdict nodes k) (relocate_verdict free old new)) (change k (relocated nodes k old new))
 
--- where the file stays and has n bytes; "a shrink zeroes the lost end after the table", "grown bytes are what the free space held"
+-- where the file stays and has n bytes: what it loses is zeroed after the table, what it gains is as the free space held it
 abbrev pub resized : List Node → ℕ → DiscRegion → ℕ → Change
 resized nodes k old n = record {
   nodes = set_place k old.offset n nodes;
@@ -152,7 +150,7 @@ resized nodes k old n = record {
   lost = record { offset = old.offset + n; size = old.size - n };
 }
 
--- "Growth finds a place with alignment 0x8000 where the file can't grow where it is."
+-- at a multiple of 0x8000, where it can't grow in place
 abbrev pub plan_elsewhere : List Node → List DiscRegion → ℕ → DiscRegion → ℕ → Result DiscRegion Refusal → Plan
 plan_elsewhere nodes free k old n (Err c) = refused (Err c)
 plan_elsewhere nodes free k old n (Ok r) =
@@ -170,31 +168,31 @@ plan_sized free nodes k old n =
 unfoldable pub plan_resize : List DiscRegion → List Node → ℕ → ℕ → Plan
 plan_resize free nodes k n = planned (file_verdict nodes k) (plan_sized free nodes k (region_of (slice_index_or nodes k none)) n)
 
--- ---- "Fill a file from given bytes": "Resize the file to the clip, then write it; a refused resize writes nothing."
+-- ---- fills: the resize to the clip's length with all its tests, and then the clip
 
--- 15, 16, then "A clip above 2^32 - 1 bytes finds no place and is 21."
+-- 15, 16, and then 21 for a clip whose length passes 32 bits
 abbrev pub clip_verdict : List Node → ℕ → ℕ → Verdict
 clip_verdict nodes k n = first (file_verdict nodes k) (refuse (nat_lt (2 ^ 32 - 1) n) NotEnoughSpace (Ok tt))
 
 unfoldable pub plan_fill : List DiscRegion → List Node → ℕ → List ℕ → Plan
 plan_fill free nodes k clip = planned (clip_verdict nodes k (length clip)) (filled k clip (plan_resize free nodes k (length clip)))
 
--- ---- the whole of an edit
+-- ---- the whole of an edit, which is decided on the disc that the image means, and on nothing else of it
 
-abbrev pub plan_of : Edit → List ℕ → Plan
-plan_of (insert_file p nm) image = plan_insert (λ q. empty_file nm) (nodes_in image) p nm
-plan_of (insert_directory p nm) image = plan_insert (empty_directory nm) (nodes_in image) p nm
-plan_of (make_directories start path) image = plan_make_directories (nodes_in image) start path
-plan_of (move_file k to) image = plan_move (free_space_of image) (nodes_in image) k to
-plan_of (resize_file k n) image = plan_resize (free_space_of image) (nodes_in image) k n
-plan_of (fill_file k clip) image = plan_fill (free_space_of image) (nodes_in image) k clip
-plan_of rewrite image = change 0 (table_only (nodes_in image))
+abbrev pub plan_of : Edit → Disc → Plan
+plan_of (insert_file p nm) d = plan_insert (λ q. empty_file nm) d.nodes p nm
+plan_of (insert_directory p nm) d = plan_insert (empty_directory nm) d.nodes p nm
+plan_of (make_directories start path) d = plan_make_directories d.nodes start path
+plan_of (move_file k to) d = plan_move (free_of d) d.nodes k to
+plan_of (resize_file k n) d = plan_resize (free_of d) d.nodes k n
+plan_of (fill_file k clip) d = plan_fill (free_of d) d.nodes k clip
+plan_of rewrite d = change 0 (table_only d.nodes)
 
-abbrev pub plan_verdict : Plan → List ℕ → ℕ → ℕ → Verdict
-plan_verdict (refused v) image words bytes = v
-plan_verdict nothing image words bytes = Ok tt
-plan_verdict (change k c) image words bytes = table_verdict_in c image words bytes
-plan_verdict (filled k clip p) image words bytes = plan_verdict p image words bytes
+abbrev pub plan_verdict : Plan → Disc → ℕ → ℕ → Verdict
+plan_verdict (refused v) d words bytes = v
+plan_verdict nothing d words bytes = Ok tt
+plan_verdict (change k c) d words bytes = table_verdict c d words bytes
+plan_verdict (filled k clip p) d words bytes = plan_verdict p d words bytes
 
 -- the tree that a plan comes to
 abbrev pub plan_tree : Plan → List Node → List Node
@@ -210,25 +208,25 @@ plan_image nothing image = image
 plan_image (change k c) image = written c image
 plan_image (filled k clip p) image = put (plan_image p image) (region_of (slice_index_or (plan_tree p (nodes_in image)) k none)).offset clip
 
--- "25, used bytes or edit count would leave 0 to 2^32 - 1, tested last"; t is the record that the edit is handed
+-- 25 is the last test of all; t is the record that the edit is handed
 unfoldable pub counted_verdict : Plan → Totals → List ℕ → ℕ → ℕ → Verdict
-counted_verdict p t image words bytes = first (plan_verdict p image words bytes) (totals_verdict t (used_of image) (used_of (plan_image p image)))
+counted_verdict p t image words bytes = first (plan_verdict p (disc_of image) words bytes) (totals_verdict t (used_of image) (used_of (plan_image p image)))
 
 -- the verdict on an edit of an image, with a record and so many working words and bytes lent: opening, the edit's own tests, the table's, 25
 unfoldable pub verdict_of : Edit → Totals → List ℕ → ℕ → ℕ → Verdict
-verdict_of ed t image words bytes = first (opening image words) (counted_verdict (plan_of ed image) t image words bytes)
+verdict_of ed t image words bytes = first (opening image words) (counted_verdict (plan_of ed (disc_of image)) t image words bytes)
 
 -- the image afterwards: a refused edit leaves it as it is
 unfoldable pub image_after : Edit → Totals → List ℕ → ℕ → ℕ → List ℕ
-image_after ed t image words bytes = if is_refused (verdict_of ed t image words bytes) then image else plan_image (plan_of ed image) image
+image_after ed t image words bytes = if is_refused (verdict_of ed t image words bytes) then image else plan_image (plan_of ed (disc_of image)) image
 
--- the record with the totals of the new image: "Used bytes move by the edit's change, the count by one; the largest region is the new image's."
+-- the record moved to the totals of the new image
 abbrev pub totals_to : Totals → List ℕ → List ℕ → Totals
 totals_to t image new = totals_moved t (used_of image) (used_of new) (largest_size (free_space_of new))
 
--- the record afterwards: "A refused edit hands the record back unaltered."
+-- the record afterwards; a refused edit leaves it as it was
 unfoldable pub totals_after : Edit → Totals → List ℕ → ℕ → ℕ → Totals
-totals_after ed t image words bytes = if is_refused (verdict_of ed t image words bytes) then t else totals_to t image (plan_image (plan_of ed image) image)
+totals_after ed t image words bytes = if is_refused (verdict_of ed t image words bytes) then t else totals_to t image (plan_image (plan_of ed (disc_of image)) image)
 
 -- the answer of an edit that gives an entry's number
 abbrev pub plan_number : Plan → ℕ

@@ -3,10 +3,10 @@
 use Rattle.refusal.specs.Refusal.{Verdict}
 use Rattle.std.specs.Prelude.{ℕ, ◌≡◌, List, length}
 use Rattle.space.specs.declared.totals.Totals.{Totals}
-use Rattle.opened.specs.Opening.{zeros}
+use Rattle.opened.specs.Opening.{zeros, disc_of}
 use Rattle.edits.specs.Edits.{Edit, plan_of, plan_number, verdict_of, image_after, totals_after}
 
--- what a call lends: the image, working words and working bytes; and the record, "that goes into an edit and comes back"
+-- what a call lends: the image, working words and working bytes, and the record
 pub record Lent : Type 0 where
   pub image : List ℕ
   pub words : List ℕ
@@ -23,7 +23,7 @@ only_verdict v k = v
 -- `answer` says how a call gives its verdict and the number of the entry; every byte of the image, the record, and the working memory, which is
 -- zero
 pub record Edited {A : Type 0} (answer : Verdict → ℕ → A) (ed : Edit) (before after : Lent) (r : A) : Type 0 where
-  pub answered : r ≡ answer (verdict_of ed before.totals before.image (length before.words) (length before.bytes)) (plan_number (plan_of ed before.image))
+  pub answered : r ≡ answer (verdict_of ed before.totals before.image (length before.words) (length before.bytes)) (plan_number (plan_of ed (disc_of before.image)))
   pub image : after.image ≡ image_after ed before.totals before.image (length before.words) (length before.bytes)
   pub totals : after.totals ≡ totals_after ed before.totals before.image (length before.words) (length before.bytes)
   pub words : after.words ≡ zeros before.words

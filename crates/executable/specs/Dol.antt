@@ -1,4 +1,4 @@
--- The DOL header, 0xE4 bytes: 7 text and 11 data offsets, then addresses, then sizes in that order, BSS address, BSS size, entry point.
+-- The DOL header (FORMAT, The program), and the file size that it tells.
 use Rattle.refusal.specs.Refusal.{Verdict, refuse}
 use Rattle.refusal.specs.declared.Refusal.{Refusal}
 use Rattle.std.specs.Prelude.{ℕ, zero, suc, ◌+◌, ◌-◌, ◌^◌, max, List, [], ◌∷◌, length, replicate, Result, Ok, nat_lt}
@@ -33,7 +33,7 @@ largest_of [] ss = 0
 largest_of (o ∷ os) [] = 0
 largest_of (o ∷ os) (s ∷ ss) = max (o + s) (largest_of os ss)
 
--- the largest offset + size of the 18 sections
+-- where the last section ends; empty ones count too
 abbrev pub file_size_of : DolHeader → ℕ
 file_size_of h = max (largest_of h.text_offsets h.text_sizes) (largest_of h.data_offsets h.data_sizes)
 

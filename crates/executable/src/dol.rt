@@ -1,5 +1,4 @@
-// The header of a DOL executable, read from an image at an offset: 7 text and 11 data offsets, then
-// addresses, then sizes in that order, BSS address, BSS size, entry point; 0xE4 bytes.
+// The header of a DOL executable (FORMAT, The program), read from an image at an offset: 0xE4 bytes.
 ghost use Rattle.std.specs.Prelude.{◌≡◌, ◌+◌, ◌*◌, ◌≤◌, ◌<◌, length};
 ghost use Rattle.window.specs.Window.{new_window};
 ghost use Rattle.executable.specs.Dol as dol_of;

@@ -1,5 +1,5 @@
--- The ledger (document 01, "The ledger of demand 3"): "Beyond the first image it is fed only each call's kind, its numbers and name or
--- path, and whether it was accepted."; document 02, Point 4: it is "given the clip too". Assumes nothing: these are definitions.
+-- RULES, The ledger: it is told of each call its kind, its numbers, its name, path or clip, and whether it
+-- was accepted. Assumes nothing: these are definitions.
 use Rattle.std.specs.Prelude.{ℕ, zero, suc, min, Bool, true, false, List, [], ◌∷◌, map, length, set, if◌then◌else◌, slice_index_or}
 use Rattle.endian.specs.Bytes.{span}
 use Rattle.tree.specs.Table.{Node, file, directory}
@@ -8,7 +8,7 @@ use Rattle.tree.specs.Insert.{insert_at, set_place, empty_file, empty_directory}
 use Rattle.opened.specs.Opening.{nodes_in}
 use Rattle.edits.specs.Edits.{Edit, insert_file, insert_directory, make_directories, move_file, resize_file, fill_file, rewrite, new_number, Made, stopped, made, make}
 
--- of a file: "starting place and bytes, m, and whether it was named"
+-- of a file: its starting place and bytes; m, how many of them it still begins with; whether an edit named it
 pub record History : Type 0 where
   pub place : ℕ
   pub bytes : List ℕ
@@ -16,7 +16,7 @@ pub record History : Type 0 where
   pub named : Bool
 
 pub record Ledger : Type 0 where
-  -- "names, kinds and nesting in order and, per file, size": the entries, without a place (it is 0)
+  -- the entries, without a place (it is 0)
   pub nodes : List Node
   -- one history for each file, in the order of the entries
   pub histories : List History
@@ -33,15 +33,15 @@ files_before (suc k) [] = 0
 files_before (suc k) (file nm offset size ∷ xs) = suc (files_before k xs)
 files_before (suc k) (directory nm next ∷ xs) = files_before k xs
 
--- "a file begins with place 0, size 0, no bytes, m 0, unnamed"
+-- a file that was inserted
 abbrev pub new_history : History
 new_history = record { place = 0; bytes = []; m = 0; named = false }
 
--- "the history of the file with entry number k is what the ledger holds for its file k"
+-- of the file with entry number k: the files are counted among the ledger's own entries
 abbrev pub history_of : Ledger → ℕ → History
 history_of l k = slice_index_or l.histories (files_before k l.nodes) new_history
 
--- ---- "It starts as the tree opening reads from the first image, m each file's size, none named."
+-- ---- at first: the tree of the first image, every byte of a file its start, none named
 
 unfoldable pub first_histories : List ℕ → List Node → List History
 first_histories image [] = []
@@ -60,15 +60,15 @@ put_in zero x xs = x ∷ xs
 put_in (suc j) x [] = x ∷ []
 put_in (suc j) x (y ∷ xs) = y ∷ put_in j x xs
 
--- "marks its file named"
+-- by a move
 abbrev pub marked : History → History
 marked h = record { place = h.place; bytes = h.bytes; m = h.m; named = true }
 
--- "sets the size and lowers m to it if it is less"
+-- by a resize to n bytes
 abbrev pub lowered : ℕ → History → History
 lowered n h = record { place = h.place; bytes = h.bytes; m = min h.m n; named = true }
 
--- "marks the file named, with the clip as its starting bytes and its length as size and m"
+-- by a fill: the clip is what the file starts with
 abbrev pub refilled : List ℕ → History → History
 refilled clip h = record { place = h.place; bytes = clip; m = length clip; named = true }
 
@@ -82,7 +82,7 @@ made_nodes nodes (stopped c) = nodes
 made_nodes nodes (made new k bad) = new
 
 abbrev pub entered : Edit → Ledger → Ledger
--- "An accepted insert adds the entry as last child"
+-- the entry becomes the last child
 entered (insert_file p nm) l = record {
   nodes = insert_at p (empty_file nm) l.nodes;
   histories = put_in (files_before (new_number l.nodes p) l.nodes) new_history l.histories;
@@ -91,17 +91,17 @@ entered (insert_directory p nm) l = record {
   nodes = insert_at p (empty_directory nm (new_number l.nodes p)) l.nodes;
   histories = l.histories;
 }
--- "An accepted make-directories walks its path by Lookup's rules, adding each missing directory as last child."
+-- a lookup's walk, which adds each directory that is missing as the last child
 entered (make_directories start path) l = record {
   nodes = made_nodes l.nodes (make l.nodes [] start false (components path));
   histories = l.histories;
 }
--- "An accepted move marks its file named; an accepted resize does too, sets the size and lowers m to it if it is less."
+-- both name the file; a resize changes its size
 entered (move_file k to) l = record { nodes = l.nodes; histories = on_history k marked l }
 entered (resize_file k n) l = record { nodes = set_place k 0 n l.nodes; histories = on_history k (lowered n) l }
--- "A fill is one edit and joins demand 3's list"
+-- a fill names it too, and gives it the clip's size
 entered (fill_file k clip) l = record { nodes = set_place k 0 (length clip) l.nodes; histories = on_history k (refilled clip) l }
--- "Rewrites and refused calls change nothing."
+-- nothing that the ledger holds
 entered rewrite l = l
 
 -- what the ledger is told of a call

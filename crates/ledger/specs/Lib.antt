@@ -1,4 +1,5 @@
 pub mod Ledger
+pub mod Lists
 pub mod Runs
 pub mod Spared
 pub mod Theorem

@@ -25,7 +25,7 @@ reports_of (c ∷ calls) image =
     record { edit = c.edit; accepted = not (is_refused (verdict_of c.edit c.totals image c.words c.bytes)) }
     ∷ reports_of calls (image_after c.edit c.totals image c.words c.bytes)
 
--- ---- the record (document 02, Point 6)
+-- ---- the record
 
 -- the record that the last call handed back; t where there is no call
 unfoldable pub totals_after_all : Totals → List Call → List ℕ → Totals
@@ -33,8 +33,8 @@ totals_after_all t [] image = t
 totals_after_all t (c ∷ calls) image =
     totals_after_all (totals_after c.edit c.totals image c.words c.bytes) calls (image_after c.edit c.totals image c.words c.bytes)
 
--- "passed through every later edit, each on the image as the one before left it, nobody else writing to it": t goes into the first call, and
--- what a call hands back into the next; the images are those of `image_after_all`
+-- t goes into the first call, and what a call hands back into the next, on the image that it left; the images
+-- are those of `image_after_all`
 abbrev pub HandedOn : Totals → List Call → List ℕ → Type 0
 HandedOn t [] image = Unit {0}
 HandedOn t (c ∷ calls) image =
@@ -47,7 +47,7 @@ accepted_in (r ∷ reports) = (if r.accepted then 1 else 0) + accepted_in report
 
 -- ---- what a call may be
 
--- "Offsets and sizes passed in have 32 bits."; a clip is "given bytes"
+-- numbers of 32 bits, and a clip of bytes
 abbrev pub Passable : Edit → Type 0
 Passable (insert_file p nm) = Unit {0}
 Passable (insert_directory p nm) = Unit {0}

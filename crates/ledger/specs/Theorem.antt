@@ -1,14 +1,14 @@
--- Demand 3, "a single claim about the list and not one for each call": what holds of the image after any list of calls, by the ledger of the
--- list. Beside it, what it comes to for a file that no accepted edit named, and for one that was just filled; what a record says that was
--- handed on through the list; and what the stated maximum keeps the table to. All are proved: `demand-3` and `unnamed-stays` of
--- Laws/LedgerHolds, `fill-reads` of Laws/FillReads, `record-tells` of Laws/RecordTells, `maximum-kept` of Laws/MaximumKept. Assumes nothing: these
--- are definitions.
+-- What holds after any list of calls, as one claim about the list: of the last image, by the list's ledger;
+-- of a file that no accepted edit named, of one just filled, of a record handed on, of the stated maximum
+-- (RULES, After any list of edits). Proved in proofs/Laws: `ledger-holds` and `unnamed-stays` of
+-- AfterAnyList, `fill-reads` of FillReads, `record-tells` of RecordTells, `maximum-kept` of MaximumKept.
+-- Assumes nothing: these are definitions.
 use Rattle.std.specs.Prelude.{Ok, slice_index_or}
 use Rattle.std.specs.Prelude.{ℕ, ◌+◌, ◌<◌, ◌≤◌, ◌≡◌, true, false, List, map, length, take}
 use Rattle.endian.specs.Bytes.{put, span, AllBytes}
 use Rattle.header.specs.Verdicts.{dol_offset, fst_size, fst_max_size, table_end, disc_end}
 use Rattle.tree.specs.Table.{file, none}
-use Rattle.space.specs.Used.{end_of, inside, total_size}
+use Rattle.space.specs.Used.{end_of, inside, total_size, no_region}
 use Rattle.space.specs.Listing.{region_row, listing_of, list_after}
 use Rattle.executable.specs.Program.{program_of, program_in, program_behind}
 use Rattle.space.specs.declared.totals.Totals.{Totals}
@@ -16,12 +16,12 @@ use Rattle.opened.specs.Opening.{table_of, nodes_in, region_of, used_in, free_sp
 use Rattle.disc.specs.Calls.{totals_answer, program_answer, free_regions_answer, free_regions_list, totals_of, record_answer}
 use Rattle.window.specs.Window.{new_window, count_of, buffer_of}
 use Rattle.disc.specs.Files.{open_file_answer}
-use Rattle.edits.specs.Edits.{fill_file, no_place, verdict_of, image_after}
+use Rattle.edits.specs.Edits.{fill_file, verdict_of, image_after}
 use Rattle.ledger.specs.Ledger.{Ledger, bare, files_before, history_of, first_ledger, ledger_after}
 use Rattle.ledger.specs.Runs.{Call, image_after_all, reports_of, totals_after_all, HandedOn, accepted_in, AllWithin}
 use Rattle.ledger.specs.Spared.{number_after, Spared}
 
--- of the file with entry number k, which lies at `offset` and has `size` bytes, by "what the ledger holds for its file k"
+-- of the file with entry number k, which lies at `offset` and has `size` bytes, by its history in the ledger
 pub record TrueTo (image : List ℕ) (l : Ledger) (k offset size : ℕ) : Type 0 where
   -- m is at most its size, and at most the number of its starting bytes
   pub m-size : (history_of l k).m ≤ size
@@ -31,7 +31,7 @@ pub record TrueTo (image : List ℕ) (l : Ledger) (k offset size : ℕ) : Type 0
   -- unnamed, it has its starting place, size and bytes
   pub unnamed : (history_of l k).named ≡ false → (offset ≡ (history_of l k).place) × (size ≡ length (history_of l k).bytes) × (span image offset size ≡ (history_of l k).bytes)
 
--- the program of the first image, wherever it lies, as the last image has it (document 02, Point 2: "no edit alters its bytes")
+-- the program of the first image, wherever it lies, as the last image has it: no edit changes a byte of it
 pub record SameProgram (first last : List ℕ) : Type 0 where
   pub offset : dol_offset last ≡ dol_offset first
   pub region : program_in last ≡ program_in first
@@ -39,16 +39,16 @@ pub record SameProgram (first last : List ℕ) : Type 0 where
   pub bytes : span last (program_in first).offset (program_in first).size ≡ span first (program_in first).offset (program_in first).size
   pub whole : end_of (program_in first) ≤ length last
 
--- of the image after a list of calls, and the list's ledger; w is the "same memory"
+-- of the image after a list of calls, and the list's ledger; w words are lent
 pub record LedgerHolds (w : ℕ) (first image : List ℕ) (l : Ledger) : Type 0 where
   pub opens : opening image w ≡ Ok tt
-  -- "After the list, opening reads the ledger's names, kinds, nesting, order and sizes"
+  -- opening reads the ledger's names, kinds, nesting, order and sizes
   pub tree : map bare (nodes_in image) ≡ l.nodes
   -- no two used regions share a byte: used regions i and j that both have byte n are one
-  pub apart : (i j n : ℕ) → inside (slice_index_or (used_in image) i no_place) n ≡ true → inside (slice_index_or (used_in image) j no_place) n ≡ true → i ≡ j
-  -- table end + the program "where it lies past the table" + all file sizes + free bytes = disc end; "Free bytes are the free regions' sizes together"
+  pub apart : (i j n : ℕ) → inside (slice_index_or (used_in image) i no_region) n ≡ true → inside (slice_index_or (used_in image) j no_region) n ≡ true → i ≡ j
+  -- table end + the program where it is a region of its own + all file sizes + all free bytes = disc end
   pub sum : table_end image + (program_behind image).size + total_size (map region_of (nodes_in image)) + total_size (free_space_of image) ≡ disc_end image
-  -- "a used total or free region reported then is the one defined above"
+  -- what is reported of used and free bytes is what is defined of them
   pub used-reported : totals_answer image w ≡ Ok (record { disc_end = disc_end image; used = table_end image + (program_behind image).size + total_size (map region_of (nodes_in image)) })
   pub free-reported : (room : ℕ) → free_regions_answer image w room ≡ listing_of region_row (free_space_of image) room
   pub free-listed : (list : List ℕ) → free_regions_list image w list ≡ list_after region_row (free_space_of image) list
@@ -82,7 +82,7 @@ UnnamedStays =
     (k : ℕ) (nm : List ℕ) (offset size : ℕ) → slice_index_or (nodes_in image) k none ≡ file nm offset size → Spared (reports_of calls image) (first_ledger image) (files_before k (nodes_in image)) →
     StillThere image (image_after_all calls image) (number_after (reports_of calls image) (first_ledger image) (files_before k (nodes_in image))) nm offset size
 
--- ---- "Afterwards the file is exactly the clip." (document 02, Point 4)
+-- ---- after an accepted fill the file is the clip
 
 -- file k as its window shows it: as long as the clip, and a read into a buffer that is long enough gives the clip and no more
 pub record ShowsClip (image : List ℕ) (w k : ℕ) (clip : List ℕ) : Type 0 where
@@ -97,7 +97,7 @@ FillReads =
     (totals : Totals) (image clip : List ℕ) (k words bytes w : ℕ) → AllBytes image → AllBytes clip → words ≤ w → verdict_of (fill_file k clip) totals image words bytes ≡ Ok tt →
     ShowsClip (image_after (fill_file k clip) totals image words bytes) w k clip
 
--- ---- "always holds the used bytes and largest region worked out afresh, and the number of edits accepted since" (document 02, Point 6)
+-- ---- a record that is handed on tells what one made afresh would, and how many edits were accepted
 
 -- the record t, of an image, after n accepted edits: what a record made of the image with w words says, and n
 pub record Tells (image : List ℕ) (w n : ℕ) (t : Totals) : Type 0 where
@@ -110,7 +110,7 @@ RecordTells =
     (image : List ℕ) (w₀ w : ℕ) (t : Totals) (calls : List Call) → AllBytes image → record_answer image w₀ ≡ Ok t → w₀ ≤ w → AllWithin w calls → HandedOn t calls image →
     Tells (image_after_all calls image) w (accepted_in (reports_of calls image)) (totals_after_all t calls image)
 
--- ---- "If it is nonzero, no edit may write a larger table." (document 02, Point 7)
+-- ---- no edit writes a table above the stated maximum
 
 -- the stated maximum of the first image, and the table of the last one
 pub record WithinMaximum (first last : List ℕ) : Type 0 where
@@ -118,7 +118,7 @@ pub record WithinMaximum (first last : List ℕ) : Type 0 where
   pub field : fst_max_size last ≡ fst_max_size first
   -- a table within a nonzero maximum at first is within it at last (this follows from `larger`)
   pub within : 0 < fst_max_size first → fst_size first ≤ fst_max_size first → fst_size last ≤ fst_max_size first
-  -- "An image whose table is already larger": a larger table at last is the first one, byte for byte
+  -- a table above it at last is the first one, byte for byte
   pub larger : 0 < fst_max_size first → fst_max_size first < fst_size last → (fst_size last ≡ fst_size first) × (table_of last ≡ table_of first)
 
 -- THEOREM: the same images, lists and memory as above

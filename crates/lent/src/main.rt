@@ -1,8 +1,12 @@
-// The window that the caller lends and finds moved: seeks and reads on windows of a small image, by `window::seek_and_read`. A script of
-// `replay` cannot say this form; the same seeks and reads by value stand in host/replay/scripts/windows.txt, and give the same. The lines
-// of the first two windows are the Rust's answers; the third is a window that the Rust cannot be handed: current with distance 0 always
-// succeeds, and no byte is read past the image.
+// A lent window, moved where it stands: seeks and reads on windows of a small image, by
+// `window::seek_and_read`. A script of `replay` cannot say this form; the same seeks and reads by value stand
+// in host/replay/scripts/windows.txt, and give the same. The lines of the first two windows are the Rust's
+// answers; the third is a window that the Rust cannot be handed: a distance of 0 from its position is not
+// refused, and no byte is read past the image.
 #![tactic(auto)]
+
+ghost use Rattle.std.specs.Prelude.{◌≡◌, length, IfOk};
+ghost use Rattle.window.specs.Window.{seek_read_of};
 
 use refusal::Refusal;
 use std::io::{self, Write};
@@ -16,8 +20,12 @@ fn say_sought<P: Print>(rt: &P, sought: Result<Window, Refusal>) -> io::Result<(
     }
 }
 
-// Seeks, reads up to four bytes into a buffer of dots, and prints the answers. Gives back the window that both left.
-fn step<P: Print>(rt: &P, window: Window, to: SeekFrom, image: &[u8]) -> io::Result<Window> {
+// Seeks, reads up to four bytes into a buffer of dots, and prints the answers. Gives back the
+// window that both left.
+fn step<P: Print>(rt: &P, window: Window, to: SeekFrom, image: &[u8]) -> io::Result<Window>
+    ensures { IfOk result
+        (λ after. after ≡ (seek_read_of window to (length image.now) 4).read.window) }
+{
     // Kept: four bytes are read at a time, and a slice of them would need an array of four too.
     let mut buf = [b'.'; 4];
     let answer = window::seek_and_read(window, to, image, &mut buf);
@@ -40,7 +48,8 @@ fn steps<P: Print>(rt: &P, mut window: Window, seeks: &[SeekFrom], image: &[u8])
 fn main(rt: HostRuntime) -> io::Result<()> {
     let image = b"0123456789abcdef";
 
-    // Six bytes at 4: positions in the window, at its end and past it, and the last position that a window at 4 has.
+    // Six bytes at 4: positions in the window, at its end and past it, and the last position that a
+    // window at 4 has.
     let inside = [
         SeekFrom::Start(0),
         SeekFrom::Current(0),

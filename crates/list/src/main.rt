@@ -1,5 +1,5 @@
-// Lists the image that standard input gives, or says why not: what it writes is what `listing::report` gives. The file `stdout` is the
-// listing of the small master that `stdin` has.
+// Lists the image that standard input gives, or says why not: what it writes is what
+// `listing::report` gives. The file `stdout` is the listing of the small master that `stdin` has.
 #![tactic(auto)]
 
 use std::io::{self, Read, Write};

@@ -20,10 +20,10 @@ use Rattle.space.specs.Used.{total_size}
 use Rattle.space.specs.Laws.SortLaws.{same_total}
 use Rattle.space.specs.Inner.Sort.{SameSums}
 use Rattle.space.specs.Inner.UsedSpace.{UsedSpace, free_in}
-use Rattle.opened.specs.Opening.{opening}
-use Rattle.opened.specs.Inner.Disc.{Disc, free_of, Means}
+use Rattle.opened.specs.Opening.{opening, Disc, free_of}
+use Rattle.opened.specs.Inner.Disc.{Opened, Means}
 use Rattle.opened.specs.Laws.Meant.{end_meant, nodes_meant, total_meant, free_meant}
-use Rattle.listing.specs.Inner.Fits.{size_or, listed_or, laid_or, text_of}
+use Rattle.listing.specs.Inner.Fits.{IsLaid, size_or, listed_or, laid_or, text_of}
 use Rattle.opened.specs.Answers.{behind}
 use Rattle.listing.specs.Lines.{totals_line, entry_lines, region_lines}
 use Rattle.listing.specs.Listing.{listing_text, listing_verdict, list_answer, list_buffer, refused_text, report_verdict, report_text, report_answer, report_buffer}
@@ -36,9 +36,9 @@ unfolding text_of
 text-is d tab u e n s f = rw (f, e, same_total u.regions d.used s, ← length-nodes_of tab, n)
 
 -- the lines of an image that means the disc
-pub text-meant : (image : List ℕ) (d : Disc) → Means image d → text_of d ≡ listing_text image
+pub text-meant : (image : List ℕ) (d : Opened) → Means image d → text_of d.disc ≡ listing_text image
 unfolding listing_text text_of
-text-meant image d m = rw (end_meant image d m, total_meant image d m, nodes_meant image d m, free_meant image d m)
+text-meant image d m = rw (free_meant image d m, end_meant image d m, total_meant image d m, nodes_meant image d m)
 
 -- ---- measured with no buffer to speak of, then written
 
@@ -52,11 +52,11 @@ module _ (text : List ℕ) {none none' bs : List ℕ} {size : ℕ} (w : Wrote no
   written : {text' : List ℕ} {r : ℕ} → size ≤ length text → Wrote text text' 0 bs r → (r ≡ length bs) × (text' ≡ put text 0 bs)
   written h v = let s = short h in (omega (arith, v.stop, s.0, s.1), v.laid (omega (arith, s.1)) (omega (arith, s.1)))
 
-  pub fits-short : length text < size → (None ≡ size_or (length text) bs) × (text ≡ laid_or text bs)
-  fits-short h = let t = lt-ltb (length text) (length bs) (too_long h) in (rw t, rw t)
+  pub fits-short : length text < size → IsLaid text text None bs
+  fits-short h = let t = lt-ltb (length text) (length bs) (too_long h) in record { size_is = rw t; text_after = rw t }
 
-  pub fits-whole : {text' : List ℕ} {r : ℕ} → size ≤ length text → Wrote text text' 0 bs r → (Some size ≡ size_or (length text) bs) × (text' ≡ laid_or text bs)
-  fits-whole h v = let t = le-ltb (length text) (length bs) (short h).1 in (rw t (ap Some (short h).0), rw t (written h v).1)
+  pub fits-whole : {text' : List ℕ} {r : ℕ} → size ≤ length text → Wrote text text' 0 bs r → IsLaid text text' (Some size) bs
+  fits-whole h v = let t = le-ltb (length text) (length bs) (short h).1 in record { size_is = rw t (ap Some (short h).0); text_after = rw t (written h v).1 }
 
 -- 0 where there is no room
 pub size-told : (room : ℕ) (bs : List ℕ) (r : Option ℕ) → r ≡ size_or room bs → unwrap_or r 0 ≡ cond (ltb room (length bs)) 0 (length bs)
@@ -77,11 +77,11 @@ module _ (image : List ℕ) (words : ℕ) (text : List ℕ) where
   unfolding list_buffer listing_verdict
   buffer-refused c e = rw e
 
-  module _ (d : Disc) (o : Means image d × (d.words ≡ words)) where
+  module _ (d : Opened) (o : Means image d × (d.words ≡ words)) where
     passes : opening image words ≡ Ok tt
     passes = rw o.1 at o.0.known.passed
 
-    pub list-opened : (r : Result ℕ Refusal) → r ≡ listed_or (length text) (text_of d) → r ≡ list_answer image words (length text)
+    pub list-opened : (r : Result ℕ Refusal) → r ≡ listed_or (length text) (text_of d.disc) → r ≡ list_answer image words (length text)
     unfolding list_answer listing_verdict
     list-opened r e = go (ltb (length text) (length (listing_text image))) (rw (text-meant image d o.0) at e)
       where
@@ -89,7 +89,7 @@ module _ (image : List ℕ) (words : ℕ) (text : List ℕ) where
         go true q = rw passes q
         go false q = rw passes q
 
-    pub buffer-opened : (text' : List ℕ) → text' ≡ laid_or text (text_of d) → text' ≡ list_buffer image words text
+    pub buffer-opened : (text' : List ℕ) → text' ≡ laid_or text (text_of d.disc) → text' ≡ list_buffer image words text
     unfolding list_buffer listing_verdict
     buffer-opened text' e = go (ltb (length text) (length (listing_text image))) (rw (text-meant image d o.0) at e)
       where

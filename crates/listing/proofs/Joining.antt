@@ -8,8 +8,7 @@ use Rattle.endian.specs.Bytes.{put}
 use Rattle.endian.specs.Laws.Stored.{length-put, put-none}
 use Rattle.endian.proofs.Parts.{put-append}
 use Rattle.table.specs.Inner.Texts.{text_at}
-use Rattle.std.proofs.lemmas.List.{get_or_past}
-use Rattle.table.proofs.Texts.{text-more, text-end}
+use Rattle.table.proofs.Texts.{text-more}
 use Rattle.listing.specs.Inner.Writing.{Wrote, Appends}
 use Rattle.listing.specs.declared.buffer.TextBuffer.{TextBuffer}
 
@@ -48,10 +47,6 @@ appends-two t u v a b bs f g e = appends-as (appends-join f g) e
 
 pub appends-three : (t u v w : TextBuffer) (a b c bs : List ℕ) → Appends t u a → Appends u v b → Appends v w c → a ++ (b ++ c) ≡ bs → Appends t w bs
 appends-three t u v w a b c bs f g h e = appends-as (appends-join f (appends-join g h)) e
-
--- behind the end of a list no text stands
-pub wrote-past : (text source : List ℕ) (at from : ℕ) → length source ≤ from → Wrote text text at (text_at source from) at
-wrote-past text source at from h = rw (text-end source from (get_or_past source from 0 h)) (wrote_none text at)
 
 -- ---- a text up to its end
 

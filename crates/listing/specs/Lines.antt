@@ -1,6 +1,5 @@
--- The lines of a listing, each ended by a line feed: disc end and used total; the entries in table order, a directory with its number, the
--- parent it is nested in (root 0), its next and its path, which ends in `/`, a file with number, offset, size and path; the free regions with
--- offset and size; all numbers in base ten. Assumes nothing: these are definitions.
+-- The lines of a listing, each ended by a line feed, all numbers in base ten (RULES, The listing). Assumes
+-- nothing: these are definitions.
 use Rattle.std.specs.Prelude.{ℕ, zero, suc, List, [], ◌∷◌, ◌++◌, if◌then◌else◌, ◌==◌, slice_index_or}
 use Rattle.tree.specs.Table.{Node, file, directory, name_of, none, parent_of}
 use Rattle.space.specs.declared.region.DiscRegion.{DiscRegion}
@@ -9,15 +8,15 @@ use Rattle.listing.specs.Decimal.{field}
 abbrev pub line_feed : List ℕ
 line_feed = 0x0A ∷ []
 
--- ---- "disc end and used total": `total`, `used`
+-- ---- the first line: disc end and used total
 
 abbrev pub totals_line : ℕ → ℕ → List ℕ
 totals_line end used =
     (0x74 ∷ 0x6F ∷ 0x74 ∷ 0x61 ∷ 0x6C ∷ []) ++ (field end ++ ((0x20 ∷ 0x75 ∷ 0x73 ∷ 0x65 ∷ 0x64 ∷ []) ++ (field used ++ line_feed)))
 
--- ---- "entries in table order"
+-- ---- a line for each entry
 
--- "path ending in `/`" of a directory
+-- a directory's path ends in `/`
 abbrev pub ending : Node → List ℕ
 ending (file nm offset size) = []
 ending (directory nm next) = 0x2F ∷ []
@@ -45,7 +44,7 @@ unfoldable pub entry_lines : List Node → ℕ → List ℕ
 entry_lines nodes zero = []
 entry_lines nodes (suc k) = entry_lines nodes k ++ entry_line nodes k
 
--- ---- "free regions with offset, size": `r`
+-- ---- a line for each free region: `r`, offset, size
 
 abbrev pub region_line : DiscRegion → List ℕ
 region_line r = 0x72 ∷ (field r.offset ++ (field r.size ++ line_feed))

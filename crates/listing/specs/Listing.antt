@@ -1,5 +1,5 @@
--- The listing of an image: its text (the listing program reads up to 65,536 bytes from standard input, refuses more with 9, and prints the
--- lines), and what the two calls answer. Assumes nothing: these are definitions.
+-- The listing of an image: its text, and what the two calls answer (RULES, The listing). Assumes nothing:
+-- these are definitions.
 use Rattle.std.specs.Prelude.{Result, Ok, Err, if◌then◌else◌, nat_lt}
 use Rattle.refusal.specs.Refusal.{Verdict}
 use Rattle.std.specs.Prelude.{ℕ, List, [], ◌∷◌, ◌++◌, length}
@@ -13,7 +13,7 @@ use Rattle.opened.specs.Answers.{behind}
 use Rattle.listing.specs.Lines.{line_feed, totals_line, entry_lines, region_lines}
 use Rattle.listing.specs.Decimal.{decimal}
 
--- "disc end and used total; entries in table order ..; free regions"
+-- the totals, the entries in table order, the free regions
 unfoldable pub listing_text : List ℕ → List ℕ
 listing_text image = totals_line (disc_end image) (used_of image) ++ (entry_lines (nodes_in image) (length (nodes_in image)) ++ region_lines (free_space_of image))
 
@@ -30,11 +30,11 @@ list_buffer image words text = behind (listing_verdict image words (length text)
 
 -- ---- what the program writes
 
--- "A refused image gives only the fixed text `refused `, the number and a line feed."
+-- the whole text where an image is refused
 abbrev pub refused_text : Refusal → List ℕ
 refused_text c = (0x72 ∷ 0x65 ∷ 0x66 ∷ 0x75 ∷ 0x73 ∷ 0x65 ∷ 0x64 ∷ 0x20 ∷ []) ++ (decimal (number_of c) ++ line_feed)
 
--- "reads up to 65,536 bytes from standard input (more: 9)"
+-- of standard input 65,536 bytes are taken, and more is 9
 unfoldable pub report_verdict : List ℕ → ℕ → ℕ → Verdict
 report_verdict image words room = first (refuse (nat_lt 65536 (length image)) LimitOrMemory (Ok tt)) (listing_verdict image words room)
 

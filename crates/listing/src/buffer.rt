@@ -4,9 +4,10 @@ ghost use Rattle.tree.specs.Table.{up_to0};
 ghost use Rattle.listing.specs.Decimal as base_ten;
 ghost use Rattle.listing.specs.Inner.Writing.{Appends};
 
-/// A text in front of lent bytes, which grows at its end. Where the bytes are too few it is measured, and they hold no more than its beginning.
-// Kept: what it holds stands in the contracts. With an `impl Model` on it, a caller that lends the bytes knew nothing of what they hold when
-// the loan ends: its proof didn't close.
+/// A text in front of lent bytes, which grows at its end. Where the bytes are too few it is
+/// measured, and they hold no more than its beginning.
+// Kept: what it holds stands in the contracts. With an `impl Model` on it, a caller that lends the
+// bytes knew nothing of what they hold when the loan ends: its proof didn't close.
 // Kept: no derived equality, which would compare all lent bytes, those behind the text too.
 #[derive(Drop)]
 pub struct TextBuffer<'a> {

@@ -1,5 +1,5 @@
-// The lines of the entries of an accepted table. The directories around an entry are kept, so that a line costs no more than its path: 65 at
-// most, since no directory is deeper than 64.
+// The lines of the entries of an accepted table. The directories around an entry are kept, so that
+// a line costs no more than its path: 65 at most, since no directory is deeper than 64.
 ghost use Rattle.std.specs.Prelude.{◌≡◌, ◌∷◌, ◌++◌, ◌+◌, ◌<◌, ◌≤◌, ◌^◌, replicate, slice_index_or};
 ghost use Rattle.tree.specs.Table as table_of;
 ghost use Rattle.tree.specs.Table.{none, nodes_of, name_of, parent_of};
@@ -14,8 +14,8 @@ use table::Table;
 // The directories around an entry, the root first.
 #[derive(Drop)]
 struct Directories {
-    // Kept: nothing allocates, so that there is room for as many as can be. `fst_check::Stack` shows its top alone, and a path is put from the
-    // root on.
+    // Kept: nothing allocates, so that there is room for as many as can be. `table`'s `Stack`
+    // shows its top alone, and a path is put from the root on.
     numbers: [usize; 65],
     depth: usize,
 }
@@ -82,7 +82,8 @@ impl Entry<'_> {
 
     // A space, and the path of that directory.
     fn put_path(&self, text: &mut TextBuffer<'_>)
-        ensures { let nodes = nodes_of self.now.table.now in Appends text.old text.new (0x20 ∷ path_of nodes (parent_of nodes self.now.number)) }
+        ensures { let nodes = nodes_of self.now.table.now in
+            Appends text.old text.new (0x20 ∷ path_of nodes (parent_of nodes self.now.number)) }
     {
         text.push_text(b" /");
         let numbers = &self.around.numbers[..];
@@ -93,7 +94,8 @@ impl Entry<'_> {
 
     // Its line.
     fn put_line(&self, text: &mut TextBuffer<'_>)
-        ensures { Appends text.old text.new (entry_line (nodes_of self.now.table.now) self.now.number) }
+        ensures { Appends text.old text.new
+            (entry_line (nodes_of self.now.table.now) self.now.number) }
     {
         put_fields(self.table, self.number, self.parent(), text);
         self.put_path(text);
@@ -107,7 +109,8 @@ fn put_fields(table: &Table<'_>, k: usize, parent: usize, text: &mut TextBuffer<
     requires within { k < table_of.count table.now }
     requires few { k < 2 ^ 32 }
     requires before { parent ≤ k }
-    ensures { Appends text.old text.new (entry_fields k parent (slice_index_or (nodes_of table.now) k none)) }
+    ensures { let node = slice_index_or (nodes_of table.now) k none in
+        Appends text.old text.new (entry_fields k parent node) }
 {
     let last = table.last(k);
     if table.is_directory(k) {
@@ -123,7 +126,8 @@ fn put_fields(table: &Table<'_>, k: usize, parent: usize, text: &mut TextBuffer<
 // The last part of entry k's path: its name, and `/` if it is a directory.
 fn put_name(table: &Table<'_>, k: usize, text: &mut TextBuffer<'_>)
     requires { k < table_of.count table.now }
-    ensures { let node = slice_index_or (nodes_of table.now) k none in Appends text.old text.new (name_of node ++ ending node) }
+    ensures { let node = slice_index_or (nodes_of table.now) k none in
+        Appends text.old text.new (name_of node ++ ending node) }
 {
     text.push_text(table.name(k));
     if table.is_directory(k) {
@@ -142,7 +146,8 @@ fn put_root(table: &Table<'_>, text: &mut TextBuffer<'_>)
 // All entries, in table order.
 // Kept: the loop goes over the entries' numbers, by which the table is asked.
 pub fn put_entries(table: &Table<'_>, text: &mut TextBuffer<'_>)
-    ensures { Appends text.old text.new (entry_lines (nodes_of table.now) (table_of.count table.now)) }
+    ensures { Appends text.old text.new
+        (entry_lines (nodes_of table.now) (table_of.count table.now)) }
 {
     let count = table.len();
     let mut around = Directories::root();

@@ -1,7 +1,6 @@
 // The listing of an image as text.
 #![tactic(auto)]
 
-mod body;
 mod buffer;
 mod calls;
 mod entries;

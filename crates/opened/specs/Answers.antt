@@ -15,8 +15,8 @@ abbrev pub behind : {A : Type 0} → Verdict → (Refusal → A) → A → A
 behind (Ok _) f a = a
 behind (Err c) f a = f c
 
-abbrev pub disc_of : List ℕ → Disc
-disc_of image = record {
+abbrev pub summary_of : List ℕ → Disc
+summary_of image = record {
   fst_offset = fst_offset image;
   fst_size = fst_size image;
   disc_end = disc_end image;

@@ -1,5 +1,6 @@
-// An image opened: from its parts (the header, the file table, the executable's header and the image's length; the
-// rest is not there to be read), or from a slice that holds it all, of which the parts are cut.
+// An image opened: from its parts (the header, the file table, the executable's header and the
+// image's length; the rest is not there to be read), or from a slice that holds it all, of which
+// the parts are cut.
 #![tactic(auto)]
 
 mod cut;

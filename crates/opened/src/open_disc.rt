@@ -11,7 +11,8 @@ ghost use Rattle.space.specs.MaxRegionSize.{max_region_size};
 ghost use Rattle.space.specs.Allocate.{allocation_of};
 ghost use Rattle.opened.specs.Inner.Prepared.{IsOpen};
 ghost use Rattle.opened.specs.Inner.Parts.{ArePartsOf};
-ghost use Rattle.opened.specs.Inner.Disc.{OpensAs, Means, IsTableOf, free_of};
+ghost use Rattle.opened.specs.Opening.{free_of};
+ghost use Rattle.opened.specs.Inner.Disc.{OpensAs, Means, IsTableOf};
 
 use crate::cut::parts_of;
 use crate::parts::Parts;
@@ -29,7 +30,8 @@ pub struct OpenDisc<'a> {
     /// The file table's bytes.
     pub table: &'a [u8],
     /// The region of the program where it lies behind the table, of size 0 elsewhere.
-    // Kept: no `Option`, which is no plainer: the definitions have a region without bytes there too (`own_region`).
+    // Kept: no `Option`, which is no plainer: the definitions have a region without bytes there too
+    // (`own_region`).
     pub own: DiscRegion,
     /// The lent words: first the used regions, an offset and a size each.
     pub words: &'a [u32],
@@ -39,12 +41,12 @@ pub struct OpenDisc<'a> {
 
 impl<'a> Model for OpenDisc<'a> {
     ghost use Rattle.std.specs.Prelude.{length};
-    ghost use Rattle.opened.specs.Inner.Disc.{Disc, disc_in};
+    ghost use Rattle.opened.specs.Inner.Disc.{Opened, opened_in};
     ghost use Rattle.opened.specs.Inner.Backed.{IsBacked};
 
-    ghost Value = { Disc };
+    ghost Value = { Opened };
 
-    ghost view = { λ d. disc_in d.header.now d.table.now d.own (length d.words.now) };
+    ghost view = { λ d. opened_in d.header.now d.table.now d.own (length d.words.now) };
 
     ghost invariant = { λ d. IsBacked d.header.now d.table.now d.own d.words.now d.used };
 }
@@ -56,7 +58,8 @@ fn open_shown<'a>(
     words: &'a mut [u32],
 ) -> Result<OpenDisc<'a>, Refusal>
     ghost shown: { List ℕ }
-    requires { (shown ≡ _image.now) × ArePartsOf shown parts }
+    requires same { shown ≡ _image.now }
+    requires parts_of { ArePartsOf shown parts }
     ensures { OpensAs shown (length words.old) result }
 {
     OpenDisc::open(parts, words)
@@ -90,28 +93,28 @@ impl<'a> OpenDisc<'a> {
 
     /// The byte at which the disc ends.
     pub fn end(&self) -> u32
-        ensures { result ≡ self.now.end }
+        ensures { result ≡ self.now.disc.end }
     {
         header::disc_end(self.header) as u32
     }
 
     /// The byte at which its table starts.
     pub fn start(&self) -> u32
-        ensures { result ≡ self.now.start }
+        ensures { result ≡ self.now.disc.start }
     {
         header::fst_offset(self.header)
     }
 
     /// How many bytes its table has.
     pub fn room(&self) -> u32
-        ensures { result ≡ self.now.room }
+        ensures { result ≡ self.now.disc.room }
     {
         header::fst_size(self.header)
     }
 
     /// The stated maximum of the table's size in bytes, 0 where none is stated.
     pub fn maximum(&self) -> u32
-        ensures { result ≡ self.now.maximum }
+        ensures { result ≡ self.now.disc.maximum }
     {
         header::fst_max_size(self.header)
     }
@@ -119,56 +122,59 @@ impl<'a> OpenDisc<'a> {
     /// Its table, which opens.
     pub fn table(&self) -> &'a [u8]
         ensures bytes { result.now ≡ self.now.table }
-        ensures nodes { nodes_of result.now ≡ self.now.nodes }
+        ensures nodes { nodes_of result.now ≡ self.now.disc.nodes }
         ensures opens { Opens result.now }
         ensures of_image { IsTableOf self.now result.now }
-        ensures fits { self.now.start + length result.now < 2 ^ 32 }
+        ensures fits { self.now.disc.start + length result.now < 2 ^ 32 }
     {
         self.table
     }
 
     /// How many entries its table has, the root among them.
     pub fn entries(&self) -> u32
-        ensures { result ≡ length self.now.nodes }
+        ensures { result ≡ length self.now.disc.nodes }
     {
         endian::read_u32(self.table, 8)
     }
 
     /// The words that hold its used regions in order, and how many these are.
     pub fn used_words(&self) -> (&'a [u32], usize)
-        ensures open { (image : List ℕ) → Means image self.now → IsOpen image result.0.now result.1 }
-        ensures sorted { IsSortedDisjoint result.0.now result.1 self.now.end }
-        ensures free { free_regions self.now.end (regions_in result.0.now 0 result.1) ≡ free_of self.now }
+        ensures open { (image : List ℕ) → Means image self.now
+            → IsOpen image result.0.now result.1 }
+        ensures sorted { IsSortedDisjoint result.0.now result.1 self.now.disc.end }
+        ensures free { free_regions self.now.disc.end (regions_in result.0.now 0 result.1)
+            ≡ free_of self.now.disc }
     {
         (self.words, self.used)
     }
 
     /// Its used regions, and where it ends.
     pub fn used_regions(&self) -> UsedRegions<'a>
-        ensures end { result.disc_end ≡ self.now.end }
-        ensures free { free_in result ≡ free_of self.now }
-        ensures same { SameSums result.regions self.now.used }
+        ensures end { result.disc_end ≡ self.now.disc.end }
+        ensures free { free_in result ≡ free_of self.now.disc }
+        ensures same { SameSums result.regions self.now.disc.used }
     {
         UsedRegions::new(self.words, self.used, self.end())
     }
 
     /// How many bytes are used.
     pub fn used_size(&self) -> u32
-        ensures { result ≡ total_size self.now.used }
+        ensures { result ≡ total_size self.now.disc.used }
     {
         self.used_regions().used_size()
     }
 
     /// What a region of `size` bytes at `offset` can grow to.
     pub fn max_region_size(&self, offset: u32, size: u32) -> u32
-        ensures { result ≡ max_region_size offset size (free_of self.now) }
+        ensures { result ≡ max_region_size offset size (free_of self.now.disc) }
     {
         self.used_regions().max_region_size(offset, size)
     }
 
-    /// The largest free place for `size` bytes at a multiple of `align`, the last among equals. Refuses 22, then 21.
+    /// The largest free place for `size` bytes at a multiple of `align`, the last among equals.
+    /// Refuses 22, then 21.
     pub fn allocate(&self, size: u32, align: u32) -> Result<DiscRegion, Refusal>
-        ensures { result ≡ allocation_of align size (free_of self.now) }
+        ensures { result ≡ allocation_of align size (free_of self.now.disc) }
     {
         self.used_regions().allocate(size, align)
     }

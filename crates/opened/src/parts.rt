@@ -1,8 +1,7 @@
-// An image opened: from its parts (the header, the file table, the executable's header and the image's length; the
-// rest is not there to be read), or from a slice that holds it all, of which the parts are cut.
+// The parts of an image that opening reads.
 
-/// What opening reads of an image. Bytes that the image does not have are not asked for; nor is the table where
-/// the header is refused.
+/// What opening reads of an image. Bytes that the image does not have are not asked for; nor is the
+/// table where the header is refused.
 #[derive(Clone, Copy, PartialEq, Eq, Debug)]
 pub struct Parts<'a> {
     /// The first 0x440 bytes.

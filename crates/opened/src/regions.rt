@@ -81,14 +81,17 @@ fn next_file(table: &Table<'_>, k: usize, end: usize) -> Option<(usize, DiscRegi
     })
 }
 
-// The entry before which the program has its turn: where the files are in order, the first that lies behind it. Any
-// turn is right; with this one, what is in order without the program is in order with it, and no sort is needed.
-// Kept: no `partition_point`, since directories and empty files lie between the files and have no place in the order.
+// The entry before which the program has its turn: where the files are in order, the first that
+// lies behind it. Any turn is right; with this one, what is in order without the program is in
+// order with it, and no sort is needed.
+// Kept: no `partition_point`, since directories and empty files lie between the files and have no
+// place in the order.
 fn turn_of(table: &Table<'_>, program: DiscRegion) -> usize
     ensures from { 1 ≤ result }
     ensures to { result ≤ count table.now }
 {
-    // Kept: a region without bytes for none, as the definitions have it, which is passed over where it has its turn.
+    // Kept: a region without bytes for none, as the definitions have it, which is passed over where
+    // it has its turn.
     if program.size == 0 {
         return 1;
     }

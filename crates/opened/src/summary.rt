@@ -1,4 +1,4 @@
-// What the calls on an image that opened share: their answers, and what is told of the disc and of a region.
+// What is told of a disc that opened.
 ghost use Rattle.std.specs.Prelude.{◌≡◌};
 ghost use Rattle.opened.specs.Inner.Told.{told_of};
 
@@ -22,7 +22,7 @@ pub struct Disc {
 
 /// What an open disc tells of itself.
 pub fn told(disc: &OpenDisc<'_>) -> Disc
-    ensures { result ≡ told_of disc.now }
+    ensures { result ≡ told_of disc.now.disc }
 {
     Disc {
         fst_offset: disc.start(),

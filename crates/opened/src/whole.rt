@@ -11,8 +11,9 @@ use refusal::{Refusal, Verdict};
 use space::DiscRegion;
 use table::Table;
 
-// Kept: each contract names the image as a ghost, and says that these are its parts. They say nothing of its other
-// bytes, so that the image is no function of them, and no type that holds them can say which image it is.
+// Kept: each contract names the image as a ghost, and says that these are its parts. They say
+// nothing of its other bytes, so that the image is no function of them, and no type that holds them
+// can say which image it is.
 
 // The tests 1 to 13.
 pub fn check_table(parts: Parts<'_>, words: usize) -> Verdict

@@ -16,6 +16,6 @@ totals_verdict t before after =
     (refuse (nat_lt (2 ^ 32 - 1) (t.edits + 1)) TotalsOutOfRange
     (Ok tt)))
 
--- used bytes move by the edit's change, the count by one; the largest region is the new image's
+-- used bytes move by as much as the image's, the count by one
 unfoldable pub totals_moved : Totals → ℕ → ℕ → ℕ → Totals
 totals_moved t before after largest = record { used = t.used + after - before; largest = largest; edits = t.edits + 1 }

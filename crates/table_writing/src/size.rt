@@ -1,4 +1,4 @@
-// The size of the file table written anew: 12 for the root, and for each further entry 12, its name and one.
+// The size of the file table written anew: 12 bytes for the root, 13 and its name for each further entry.
 
 ghost use Rattle.std.specs.Prelude.{◌≡◌, ◌+◌, ◌*◌, ◌≤◌, length};
 ghost use Rattle.tree.specs.Table.{count};

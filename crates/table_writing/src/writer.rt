@@ -1,6 +1,6 @@
-// The file table written anew, with no name shared: an entry that is a directory writes that directory, and a
-// directory writes its entries. The table is in preorder, so what is written is what `write_flat` writes,
-// entry by entry, and that is `encode` of the table's entries.
+// The file table written anew, with no name shared. Two writers call each other: one writes an entry with all
+// that is in it, the other a directory's entries. What they write is what `write_flat` writes, entry by
+// entry, and that is `encode` of the table's entries.
 ghost use Rattle.std.specs.Prelude.{◌≡◌, ◌+◌, ◌≤◌, ◌<◌, ◌^◌, length};
 ghost use Rattle.endian.specs.Bytes.{put};
 ghost use Rattle.tree.specs.Table.{kind, size_or_next, count, nodes_of, parent_of, encode};

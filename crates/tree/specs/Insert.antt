@@ -3,7 +3,7 @@ use Rattle.std.specs.Prelude.{ℕ, zero, suc, List, [], ◌∷◌, map, set, if�
 use Rattle.tree.specs.Table.{Node, file, directory, none}
 use Rattle.tree.specs.Lookup.{next_of}
 
--- ---- an empty directory or an empty file as last child
+-- ---- the new entry is the last child, and a file has offset and size 0
 
 abbrev pub empty_file : List ℕ → Node
 empty_file nm = file nm 0 0

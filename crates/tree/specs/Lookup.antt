@@ -50,7 +50,7 @@ components_of (u ∷ us) = if separates u then [] ∷ components_of us else long
 unfoldable pub components : List ℕ → List (List ℕ)
 components path = components_of (units path)
 
--- ---- the first child with equal bytes
+-- ---- the first child with the same bytes
 
 abbrev pub child_named : List Node → ℕ → List ℕ → ℕ → Bool
 child_named nodes d nm k = parent_of nodes k == d && same_bytes (name_of (slice_index_or nodes k none)) nm
@@ -64,7 +64,7 @@ first_child nodes d nm k (suc n) = if child_named nodes d nm k then Ok k else fi
 unfoldable pub child_of : List Node → ℕ → List ℕ → Result ℕ Refusal
 child_of nodes d nm = first_child nodes d nm (suc d) (next_of (slice_index_or nodes d none) - suc d)
 
--- ---- before each component the entry must be a directory; empty and `.` stay, and `..` goes back over the last named step
+-- ---- a component is looked for in a directory; empty and `.` stay, `..` undoes the last named step
 
 abbrev pub stays : List ℕ → Bool
 stays [] = true

@@ -55,7 +55,7 @@ unfoldable pub safe : List ℕ → Bool
 safe [] = false
 safe (x ∷ xs) = not (dots (x ∷ xs)) && list_all safe_unit (units (x ∷ xs))
 
--- ---- an entry has 12 bytes: kind (0 file, 1 directory), name offset (3), offset or parent (4), size or next (4)
+-- ---- an entry's 12 bytes: kind (1), name offset (3), offset or parent (4), size or next (4)
 
 abbrev pub kind : List ℕ → ℕ → ℕ
 kind tab k = slice_index tab (12 * k)
@@ -69,11 +69,11 @@ offset_or_parent tab k = be32 tab (12 * k + 4)
 abbrev pub size_or_next : List ℕ → ℕ → ℕ
 size_or_next tab k = be32 tab (12 * k + 8)
 
--- entry 0 is the root, and its next is the count; a count of 0 reads the root only
+-- the root's next; one that says 0 is read as the root alone
 unfoldable pub count : List ℕ → ℕ
 count tab = max 1 (size_or_next tab 0)
 
--- texts fill the rest of the table, each ended by a zero byte: the bytes up to the first 0
+-- a text: the bytes up to the first 0
 abbrev pub up_to0 : List ℕ → List ℕ
 up_to0 [] = []
 up_to0 (zero ∷ s) = []
@@ -139,7 +139,7 @@ name_verdict tab c k nm =
     (refuse (not (plain nm)) InvalidNameByte
     (refuse (not (safe nm)) UnsafeName (Ok tt)))
 
--- a next at or before its entry, past the count, past its parent's next; then the depth, which is the number of directories open
+-- the next, and then the depth, which is the number of directories open
 unfoldable pub next_verdict : ℕ → List ℕ → ℕ → Node → Verdict
 next_verdict c dirs k (file nm offset size) = Ok tt
 next_verdict c dirs k (directory nm next) =
@@ -221,7 +221,7 @@ shallow_from dirs k (x ∷ xs) = shallow_entry (shut k dirs) x && shallow_from (
 unfoldable pub shallow : List Node → Bool
 shallow nodes = shallow_from (length nodes ∷ []) 1 (tail nodes)
 
--- the limits as at opening: entries, texts as they are written, working words, depth
+-- of a tree to be written, as at opening; the texts are the written ones
 unfoldable pub limits : List Node → ℕ → Verdict
 limits nodes words =
     refuse (nat_lt 16384 (length nodes)) LimitOrMemory

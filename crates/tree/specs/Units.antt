@@ -18,7 +18,7 @@ abbrev pub unit_bytes : TextUnit → List ℕ
 unit_bytes (single b) = b ∷ []
 unit_bytes (pair a b) = a ∷ b ∷ []
 
--- a text cut into units from its start; a lead byte without its trail is a single byte, and the byte after it is judged afresh
+-- a text cut into units from its start; a lead byte without its trail is a single byte, and the byte after it is looked at afresh
 unfoldable pub units : List ℕ → List TextUnit
 units [] = []
 units (a ∷ []) = single a ∷ []

@@ -25,8 +25,7 @@ pub enum Entry {
 }
 
 /// The answer of a call that looks for an entry: its number and the entry.
-// Kept: one enum with the entry in it, and not a `Result` of a pair, since the scope names this form of the
-// answer.
+// Kept: one enum with the entry in it, and not a `Result` of a pair (RULES, Forms).
 #[derive(Clone, Copy, PartialEq, Eq, Debug)]
 pub enum Found {
     At(u32, Entry),

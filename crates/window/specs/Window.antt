@@ -1,4 +1,4 @@
--- A window shows a part of an image: its start, its length, and a position in it.
+-- A window on an image: its start, its length, and a position in it.
 use Rattle.refusal.specs.declared.Refusal.{Refusal}
 use Rattle.std.specs.Prelude.{ℕ, zero, suc, ◌+◌, ◌-◌, ◌%◌, ◌^◌, min, List, length, ℤ, pos, negsuc, if◌then◌else◌, nat_lt, Result, Ok, Err}
 use Rattle.std.specs.Result.{result_unwrap_or}
@@ -54,7 +54,7 @@ read_of w there asked = record { count = count_of w there asked; window = window
 abbrev pub buffer_of : Window → List ℕ → List ℕ → List ℕ
 buffer_of w image buf = put buf 0 (span image (w.start + w.position) (count_of w (length image) (length buf)))
 
--- ---- the same two calls on a window that the caller lends and finds moved
+-- ---- the same on a lent window, which is moved where it stands
 
 -- the window after a seek: the one found, or with a refusal the one it was
 abbrev pub window_after_seek : Window → Result Window Refusal → Window

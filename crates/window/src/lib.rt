@@ -1,6 +1,5 @@
-// A window shows a part of an image: where the part starts, how long it is, and the position in it. It goes
-// in by value, and each call gives back the moved window. `seek_lent` and `read_lent` are the same two calls
-// on a window that the caller lends and finds moved.
+// A window on an image: a start, a length and a position. It goes in by value, and each call gives back the
+// moved one; `seek_lent` and `read_lent` move a lent one where it stands.
 #![tactic(auto)]
 
 ghost use Rattle.std.specs.Prelude.{◌≡◌, length};

@@ -1,11 +1,11 @@
--- Document 01, "A small master": "FST at 0x440, size 0x1A, disc end 0x2000 (user size 0x2000), DOL offset 0, GameCube magic set, 0x2000
--- bytes in all, every byte not named here 0, file `a` at 0x500 of 0x100." Assumes nothing: these are definitions.
+-- The small master, byte by byte (FORMAT, The small master): 0x2000 bytes, 0 where nothing is put. Assumes
+-- nothing: these are definitions.
 use Rattle.std.specs.Prelude.{ℕ, List, [], ◌∷◌, replicate}
 use Rattle.endian.specs.Bytes.{be32_bytes, put}
 use Rattle.header.specs.Fields.{gcn_magic_field, fst_offset_field, fst_size_field, user_size_field}
 use Rattle.header.specs.Verdicts.{gcn_magic}
 
--- "Table: `01000000 00000000 00000002 00000000 00000500 00000100 6100`."
+-- the root, the file `a` at 0x500 of 0x100 bytes, and the texts
 abbrev pub master_table : List ℕ
 master_table = 1 ∷ 0 ∷ 0 ∷ 0 ∷ 0 ∷ 0 ∷ 0 ∷ 0 ∷ 0 ∷ 0 ∷ 0 ∷ 2 ∷ 0 ∷ 0 ∷ 0 ∷ 0 ∷ 0 ∷ 0 ∷ 5 ∷ 0 ∷ 0 ∷ 0 ∷ 1 ∷ 0 ∷ 0x61 ∷ 0 ∷ []
 

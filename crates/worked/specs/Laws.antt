@@ -1,6 +1,7 @@
 -- What follows from the definitions.
 pub mod Applied
 pub mod Fills
+pub mod ListAsOne
 pub mod ListImages
 pub mod ListSteps
 pub mod Marked

@@ -11,7 +11,7 @@ const ROUNDS: usize = 9;
 const MOVE: &str = "move of 1 GB";
 
 /// What no move can do without: the bytes copied, and their old place zeroed.
-fn copy_and_zero(image: &mut [u8], from: usize, to: usize, n: usize) {
+pub fn copy_and_zero(image: &mut [u8], from: usize, to: usize, n: usize) {
     assert!(from + n <= to || to + n <= from);
     assert!(from.max(to) + n <= image.len());
     let base = image.as_mut_ptr();

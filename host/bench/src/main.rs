@@ -27,6 +27,7 @@ mod images;
 mod long;
 mod measure;
 mod measuring;
+mod megabyte;
 mod names;
 mod places;
 mod program;
@@ -46,6 +47,7 @@ fn main() {
     let mut misses = vec![];
     if runs("calls") {
         calls::run(&mut misses);
+        megabyte::run(&mut misses);
     }
     let mut slower = vec![];
     if runs("long") {

@@ -2,17 +2,24 @@
 
 use std::time::{Duration, Instant};
 
-/// Rounds of one case: at least `LEAST`, then until `BUDGET` has passed or there are `MOST`.
+/// Rounds of one case: at least `LEAST`, then until its time, as a rule `BUDGET`, has passed or there are `MOST`.
 const LEAST: usize = 15;
 const MOST: usize = 3000;
 const BUDGET: Duration = Duration::from_millis(400);
 
 /// The shortest times of some contenders, one run of each in turn.
-pub fn shortest<const N: usize>(mut round: impl FnMut(usize) -> Duration) -> [Duration; N] {
+pub fn shortest<const N: usize>(round: impl FnMut(usize) -> Duration) -> [Duration; N] {
+    shortest_within(BUDGET, round)
+}
+
+pub fn shortest_within<const N: usize>(
+    budget: Duration,
+    mut round: impl FnMut(usize) -> Duration,
+) -> [Duration; N] {
     let mut best = [Duration::MAX; N];
     let start = Instant::now();
     let mut rounds = 0;
-    while rounds < LEAST || rounds < MOST && start.elapsed() < BUDGET {
+    while rounds < LEAST || rounds < MOST && start.elapsed() < budget {
         for (side, best) in best.iter_mut().enumerate() {
             *best = (*best).min(round(side));
         }

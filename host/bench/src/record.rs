@@ -74,7 +74,7 @@ fn record_of(image: &[u8], entries: usize) -> Record {
 }
 
 /// Where the table says that the file in the middle lies.
-fn place(plan: &Plan, image: &[u8]) -> [u8; 4] {
+pub fn place(plan: &Plan, image: &[u8]) -> [u8; 4] {
     let at = FST_OFFSET + 12 * plan.file as usize + 4;
     image[at..at + 4].try_into().unwrap()
 }

@@ -66,7 +66,7 @@ pub struct Lent {
 }
 
 impl Lent {
-    /// What the paper asks for at `entries` entries and a table of `table` bytes, and `regions` free regions.
+    /// What a call is lent at `entries` entries and a table of `table` bytes, and `regions` free regions.
     pub fn new(entries: usize, table: usize, regions: usize) -> Self {
         let words = vec![0; 4 * (entries + 2)];
         Self { words, bytes: vec![0; table], list: vec![0; CLUSTER_WORDS * regions] }
@@ -141,8 +141,8 @@ pub fn id_of(image: &[u8], number: u32) -> EntryId {
     disc.files().recurse().nth(number as usize).unwrap().1
 }
 
-/// What document 02 asks of a free region, which the Rust has no call for: the bytes before its first multiple of 0x8000, the whole
-/// clusters and the rest.
+/// A free region in clusters, which the Rust has no call for: the bytes before its first multiple of 0x8000,
+/// the whole clusters and the rest.
 fn in_clusters(region: &DiscRegion) -> [u32; CLUSTER_WORDS] {
     let before = region.size.min(region.offset.wrapping_neg() % 0x8000);
     let behind = region.size - before;
@@ -170,7 +170,7 @@ pub fn rust_reads(call: &Call, image: &[u8], id: EntryId) -> Timed {
             let each: Vec<_> = black_box(disc.free_regions().iter().map(in_clusters).collect());
             (start.elapsed(), each.concat())
         }
-        // What document 02 asks of a program, which the Rust has no call for: the DOL header read, and at least as long as it.
+        // The program, which the Rust has no call for: the DOL header read, and at least as long as it.
         Call::Program => {
             let size = black_box(disc.open_dol().unwrap().0.file_size().max(0xe4));
             let time = start.elapsed();

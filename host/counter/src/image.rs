@@ -250,7 +250,7 @@ pub fn lock(path: &Path, file: &File, access: Access) -> Outcome<()> {
     }
 }
 
-/// The scope paper's small master: one file `a` of 0x100 bytes at 0x500, the table at 0x440.
+/// The small master: one file `a` of 0x100 bytes at 0x500, the table at 0x440.
 fn small_master() -> Vec<u8> {
     const TABLE: [u32; 6] = [0x0100_0000, 0, 2, 0, 0x500, 0x100];
     let mut image = vec![0; 0x2000];

@@ -12,7 +12,7 @@ use crate::out::say;
 use crate::program::Program;
 use crate::progress::Progress;
 use crate::save::{save, vacant};
-use crate::sha256::{self, Sha256, Sum, hex};
+use crate::sha256::{self, LANES, Sha256, Sum, hex};
 use crate::text::{counted, one_line};
 use counter_sys::{HEADER_SIZE, Region};
 use std::fs::{self, File};
@@ -126,8 +126,11 @@ pub fn hash(args: &Args) -> Outcome<()> {
 pub fn sums(bytes: &[u8], spans: &[(u64, u64)], progress: &Progress) -> Vec<Sum> {
     let mut order: Vec<usize> = (0..spans.len()).collect();
     order.sort_by_key(|&i| u64::MAX - spans[i].1);
-    // The first is most often the whole image, as long as all others together: it goes alone.
-    let (first, others) = order.split_at(order.len().min(1));
+    // The first is most often the whole image, as long as all others together. Beside it go those that are too long to
+    // find seven others, one after the other; the rest go side by side.
+    let beside = if sha256::has_lanes() { 3 } else { 0 };
+    let long = |&&i: &&usize| spans[i].1 > spans[order[0]].1 / 4;
+    let (first, others) = order.split_at(order.iter().take(1 + beside).take_while(long).count());
     let next = AtomicUsize::new(0);
     let message = |i: usize| match spans[i] {
         // An empty file's place may be anything.
@@ -137,12 +140,13 @@ pub fn sums(bytes: &[u8], spans: &[(u64, u64)], progress: &Progress) -> Vec<Sum>
     let work = |first: &[usize]| {
         let mut found = Vec::new();
         let mut first = first.iter();
-        let mut sums = |next: &mut dyn FnMut() -> Option<usize>| {
+        let mut sums = |width: usize, next: &mut dyn FnMut() -> Option<usize>| {
             let told = |i, sum| found.push((i, sum));
-            sha256::sums(|| next().map(message), told, |count| progress.advance(count as u64));
+            let advance = |count| progress.advance(count as u64);
+            sha256::sums(width, || next().map(message), told, advance);
         };
-        sums(&mut || first.next().copied());
-        sums(&mut || others.get(next.fetch_add(1, Ordering::Relaxed)).copied());
+        sums(2, &mut || first.next().copied());
+        sums(LANES, &mut || others.get(next.fetch_add(1, Ordering::Relaxed)).copied());
         found
     };
     let threads = thread::available_parallelism().map_or(1, |n| n.get()).min(16);

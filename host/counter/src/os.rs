@@ -15,8 +15,17 @@ use std::sync::mpsc::{self, RecvTimeoutError, Sender};
 use std::thread::{self, JoinHandle};
 use std::time::Duration;
 
-#[cfg(not(all(target_os = "linux", target_pointer_width = "64")))]
-compile_error!("the numbers below are those of 64-bit Linux");
+#[cfg(not(all(
+    target_os = "linux",
+    target_pointer_width = "64",
+    any(
+        target_arch = "x86_64",
+        target_arch = "aarch64",
+        target_arch = "riscv64",
+        target_arch = "loongarch64"
+    )
+)))]
+compile_error!("the numbers below are those of Linux on these processors");
 
 const PROT_READ: i32 = 1;
 const PROT_WRITE: i32 = 2;

@@ -1,7 +1,7 @@
 //! SHA-256 (FIPS 180-4). Also compiled into the build script, so it knows no other module.
 
-use std::array::from_fn;
 use std::iter;
+use std::num::Wrapping;
 use std::ops::{Add, BitAnd, BitXor};
 
 /// The first 32 bits of the fractional parts of the cube roots of the first 64 primes.
@@ -24,8 +24,11 @@ const START: [u32; 8] = [
 /// A sum, 32 bytes.
 pub type Sum = [u8; 32];
 
+type Block = [u8; 64];
+
 /// A message that comes in parts.
 pub struct Sha256 {
+    way: Way,
     state: [u32; 8],
     /// The start of a block that is not full yet.
     rest: Vec<u8>,
@@ -34,7 +37,11 @@ pub struct Sha256 {
 
 impl Sha256 {
     pub fn new() -> Sha256 {
-        Sha256 { state: START, rest: Vec::with_capacity(64), length: 0 }
+        Sha256::by(Way::best())
+    }
+
+    fn by(way: Way) -> Sha256 {
+        Sha256 { way, state: START, rest: Vec::with_capacity(64), length: 0 }
     }
 
     pub fn update(&mut self, mut bytes: &[u8]) {
@@ -46,21 +53,20 @@ impl Sha256 {
             if self.rest.len() < 64 {
                 return;
             }
-            blocks(&mut self.state, &self.rest);
+            self.way.blocks(&mut self.state, self.rest.as_chunks().0);
             self.rest.clear();
         }
-        let (whole, rest) = bytes.split_at(bytes.len() / 64 * 64);
-        blocks(&mut self.state, whole);
+        let (whole, rest) = bytes.as_chunks();
+        self.way.blocks(&mut self.state, whole);
         self.rest.extend(rest);
     }
 
     /// The message ends here: a bit 1, zeros, and the length in bits.
     pub fn finish(mut self) -> Sum {
         let bits = self.length.wrapping_mul(8);
-        self.update(&[0x80]);
-        while self.rest.len() != 56 {
-            self.update(&[0]);
-        }
+        let mut end = [0; 64];
+        end[0] = 0x80;
+        self.update(&end[..64 - (self.rest.len() + 8) % 64]);
         self.update(&bits.to_be_bytes());
         let mut sum = [0; 32];
         for (bytes, word) in sum.chunks_exact_mut(4).zip(self.state) {
@@ -70,92 +76,94 @@ impl Sha256 {
     }
 }
 
-/// Whether the processor has instructions for this sum.
-fn has_instructions() -> bool {
+/// By what of the processor sums are made. No value is one that the processor has not.
+#[derive(Clone, Copy)]
+enum Way {
+    Plain,
     #[cfg(target_arch = "x86_64")]
-    return intel::there();
-    #[cfg(not(target_arch = "x86_64"))]
-    false
+    Wide,
+    #[cfg(target_arch = "x86_64")]
+    Intel,
 }
 
-/// Whole blocks, by the processor's own instructions where it has them.
-fn blocks(state: &mut [u32; 8], bytes: &[u8]) {
-    #[cfg(target_arch = "x86_64")]
-    if intel::there() {
-        // SAFETY: the processor has just been asked.
-        return unsafe { intel::blocks(state, bytes) };
+impl Way {
+    fn best() -> Way {
+        #[cfg(target_arch = "x86_64")]
+        if intel::there() {
+            return Way::Intel;
+        }
+        #[cfg(target_arch = "x86_64")]
+        if wide::there() {
+            return Way::Wide;
+        }
+        Way::Plain
     }
-    #[cfg(target_arch = "x86_64")]
-    if wide::there() {
-        // SAFETY: the processor has just been asked.
-        return unsafe { wide::blocks(state, bytes) };
+
+    /// Blocks of a message.
+    fn blocks(self, state: &mut [u32; 8], blocks: &[Block]) {
+        match self {
+            Way::Plain => plain(state, blocks),
+            // SAFETY: the processor has it.
+            #[cfg(target_arch = "x86_64")]
+            Way::Wide => unsafe { wide::blocks(state, blocks) },
+            // SAFETY: the processor has it.
+            #[cfg(target_arch = "x86_64")]
+            Way::Intel => unsafe { intel::blocks(state, blocks) },
+        }
     }
-    plain(state, bytes);
 }
 
 // Without the instructions ----------------------------------------------------------------
 
-/// A word of each of `N` blocks.
-#[derive(Clone, Copy)]
-struct Words<const N: usize>([u32; N]);
+/// A word of each of some messages, or of one.
+trait Words: Copy + Add<Output = Self> + BitXor<Output = Self> + BitAnd<Output = Self> {
+    fn turned(self, count: u32) -> Self;
+}
 
-impl<const N: usize> Words<N> {
-    #[inline(always)]
-    fn shifted(self, count: u32) -> Self {
-        Words(self.0.map(|word| word >> count))
-    }
+/// A word of each of some blocks, or of one.
+trait OfBlocks: Words {
+    fn all(word: u32) -> Self;
+    fn shifted(self, count: u32) -> Self;
+}
 
+impl Words for Wrapping<u32> {
     #[inline(always)]
     fn turned(self, count: u32) -> Self {
-        Words(self.0.map(|word| word.rotate_right(count)))
+        Wrapping(self.0.rotate_right(count))
     }
 }
 
-impl<const N: usize> Add for Words<N> {
-    type Output = Self;
+impl OfBlocks for Wrapping<u32> {
     #[inline(always)]
-    fn add(self, other: Self) -> Self {
-        Words(from_fn(|i| self.0[i].wrapping_add(other.0[i])))
+    fn all(word: u32) -> Self {
+        Wrapping(word)
     }
-}
 
-impl<const N: usize> BitXor for Words<N> {
-    type Output = Self;
     #[inline(always)]
-    fn bitxor(self, other: Self) -> Self {
-        Words(from_fn(|i| self.0[i] ^ other.0[i]))
+    fn shifted(self, count: u32) -> Self {
+        Wrapping(self.0 >> count)
     }
 }
 
-impl<const N: usize> BitAnd for Words<N> {
-    type Output = Self;
-    #[inline(always)]
-    fn bitand(self, other: Self) -> Self {
-        Words(from_fn(|i| self.0[i] & other.0[i]))
-    }
-}
-
-/// What the 64 rounds take in of each block, with their constants.
+/// What the 64 rounds take in, with their constants, from a block's 16 words, which stand first.
 #[inline(always)]
-fn schedule<const N: usize>(blocks: [&[u8; 64]; N]) -> [Words<N>; 64] {
-    let mut w = [Words([0; N]); 64];
-    for (t, word) in w[..16].iter_mut().enumerate() {
-        *word = Words(blocks.map(|block| {
-            u32::from_be_bytes([block[4 * t], block[4 * t + 1], block[4 * t + 2], block[4 * t + 3]])
-        }));
-    }
+fn schedule<W: OfBlocks>(taken: &mut [W; 64]) {
+    let with_constant = |word: &mut W, t: usize| *word = *word + W::all(K[t]);
     for t in 16..64 {
-        let (early, late) = (w[t - 15], w[t - 2]);
+        let (early, late) = (taken[t - 15], taken[t - 2]);
         let s0 = early.turned(7) ^ early.turned(18) ^ early.shifted(3);
         let s1 = late.turned(17) ^ late.turned(19) ^ late.shifted(10);
-        w[t] = w[t - 16] + s0 + w[t - 7] + s1;
+        taken[t] = taken[t - 16] + s0 + taken[t - 7] + s1;
+        with_constant(&mut taken[t - 16], t - 16);
     }
-    from_fn(|t| w[t] + Words([K[t]; N]))
+    for t in 48..64 {
+        with_constant(&mut taken[t], t);
+    }
 }
 
-/// The 64 rounds of a block, or of `N` blocks of as many messages.
+/// The 64 rounds of a block of each message.
 #[inline(always)]
-fn rounds<const N: usize>(state: &mut [Words<N>; 8], word: impl Fn(usize) -> Words<N>) {
+fn rounds<W: Words>(state: &mut [W; 8], word: impl Fn(usize) -> W) {
     let [mut a, mut b, mut c, mut d, mut e, mut f, mut g, mut h] = *state;
     // The names turn in the place of the values.
     macro_rules! round {
@@ -184,27 +192,248 @@ fn rounds<const N: usize>(state: &mut [Words<N>; 8], word: impl Fn(usize) -> Wor
     }
 }
 
-/// The blocks of one message. What the rounds take in is reckoned of eight blocks at once.
-#[inline(always)]
-fn plain(state: &mut [u32; 8], bytes: &[u8]) {
-    let mut words = state.map(|word| Words([word]));
-    let (eights, rest) = bytes.as_chunks::<64>().0.as_chunks::<LANES>();
-    for eight in eights {
-        let taken = schedule(eight.each_ref());
-        for i in 0..LANES {
-            rounds(&mut words, |t| Words([taken[t].0[i]]));
+fn plain(state: &mut [u32; 8], blocks: &[Block]) {
+    let mut sums = state.map(Wrapping);
+    for block in blocks {
+        let mut taken = [Wrapping(0); 64];
+        for (word, bytes) in taken.iter_mut().zip(block.as_chunks().0) {
+            *word = Wrapping(u32::from_be_bytes(*bytes));
         }
+        schedule(&mut taken);
+        rounds(&mut sums, |t| taken[t]);
     }
-    for block in rest {
-        let taken = schedule([block]);
-        rounds(&mut words, |t| taken[t]);
-    }
-    *state = words.map(|word| word.0[0]);
+    *state = sums.map(|word| word.0);
 }
 
-/// So many messages go side by side. Fewer than `FEW` are faster one after the other.
-const LANES: usize = 8;
-const FEW: usize = 4;
+/// By vectors of AVX2, which are made by functions for such a processor alone.
+#[cfg(target_arch = "x86_64")]
+mod wide {
+    use super::{Block, LANES, Lane, OfBlocks, STEP, Words, plain, rounds, schedule};
+    use std::arch::x86_64::*;
+    use std::array::from_fn;
+    use std::mem::transmute;
+    use std::num::Wrapping;
+    use std::ops::{Add, BitAnd, BitXor};
+
+    pub fn there() -> bool {
+        is_x86_feature_detected!("avx2")
+            && is_x86_feature_detected!("bmi1")
+            && is_x86_feature_detected!("bmi2")
+    }
+
+    /// A word of each of eight.
+    #[derive(Clone, Copy)]
+    #[repr(transparent)]
+    struct Eight(__m256i);
+
+    /// A word of each of two, in the lower half of 64 bits; what is above it means nothing.
+    #[derive(Clone, Copy)]
+    struct Two(__m128i);
+
+    macro_rules! operation {
+        ($words:ident, $operation:ident, $name:ident, $intrinsic:ident) => {
+            impl $operation for $words {
+                type Output = Self;
+                #[inline(always)]
+                fn $name(self, other: Self) -> Self {
+                    // SAFETY: there is a vector, so the processor has them.
+                    $words(unsafe { $intrinsic(self.0, other.0) })
+                }
+            }
+        };
+    }
+    operation!(Eight, Add, add, _mm256_add_epi32);
+    operation!(Eight, BitXor, bitxor, _mm256_xor_si256);
+    operation!(Eight, BitAnd, bitand, _mm256_and_si256);
+    operation!(Two, Add, add, _mm_add_epi32);
+    operation!(Two, BitXor, bitxor, _mm_xor_si128);
+    operation!(Two, BitAnd, bitand, _mm_and_si128);
+
+    impl Words for Eight {
+        #[inline(always)]
+        fn turned(self, count: u32) -> Self {
+            // SAFETY: as above.
+            let left = unsafe { _mm256_sll_epi32(self.0, _mm_cvtsi32_si128(32 - count as i32)) };
+            self.shifted(count) ^ Eight(left)
+        }
+    }
+
+    impl OfBlocks for Eight {
+        #[inline(always)]
+        fn all(word: u32) -> Self {
+            // SAFETY: it is asked where there are other vectors.
+            Eight(unsafe { _mm256_set1_epi32(word as i32) })
+        }
+
+        #[inline(always)]
+        fn shifted(self, count: u32) -> Self {
+            // SAFETY: as above.
+            Eight(unsafe { _mm256_srl_epi32(self.0, _mm_cvtsi32_si128(count as i32)) })
+        }
+    }
+
+    impl Words for Two {
+        /// Where the word stands twice in its 64 bits, one shift turns it.
+        #[inline(always)]
+        fn turned(self, count: u32) -> Self {
+            // SAFETY: as above.
+            unsafe {
+                let twice = _mm_shuffle_epi32(self.0, 0b10_10_00_00);
+                Two(_mm_srl_epi64(twice, _mm_cvtsi32_si128(count as i32)))
+            }
+        }
+    }
+
+    impl Two {
+        #[inline(always)]
+        fn of(words: [u32; 2]) -> Self {
+            // SAFETY: every processor of this kind has it.
+            Two(unsafe { _mm_set_epi32(0, words[1] as i32, 0, words[0] as i32) })
+        }
+    }
+
+    /// What the rounds take in of eight blocks, block by block in each vector.
+    #[target_feature(enable = "avx2")]
+    #[inline]
+    fn take(taken: &mut [Eight; 64], blocks: [&Block; LANES]) {
+        let swap = _mm256_set_epi64x(
+            0x0c0d_0e0f_0809_0a0b,
+            0x0405_0607_0001_0203,
+            0x0c0d_0e0f_0809_0a0b,
+            0x0405_0607_0001_0203,
+        );
+        for (quarter, words) in taken[..16].as_chunks_mut::<4>().0.iter_mut().enumerate() {
+            let mut rows = [swap; 4];
+            for (i, row) in rows.iter_mut().enumerate() {
+                let [low, high] = [i, i + 4].map(|i| blocks[i][16 * quarter..][..16].as_ptr());
+                // SAFETY: both loads are of these 16 bytes.
+                let bytes = unsafe { _mm256_loadu2_m128i(high.cast(), low.cast()) };
+                *row = _mm256_shuffle_epi8(bytes, swap);
+            }
+            // Done twice, it makes columns of rows.
+            for _ in 0..2 {
+                let [a, b, c, d] = rows;
+                rows = [
+                    _mm256_unpacklo_epi32(a, c),
+                    _mm256_unpackhi_epi32(a, c),
+                    _mm256_unpacklo_epi32(b, d),
+                    _mm256_unpackhi_epi32(b, d),
+                ];
+            }
+            *words = rows.map(Eight);
+        }
+        schedule(taken);
+    }
+
+    /// The words that the vectors are of.
+    fn words(taken: &[Eight; 64]) -> &[[u32; LANES]; 64] {
+        // SAFETY: a vector is eight words.
+        unsafe { transmute(taken) }
+    }
+
+    /// Blocks of one message, eight at once but for the rounds.
+    #[target_feature(enable = "avx2,bmi1,bmi2")]
+    pub fn blocks(state: &mut [u32; 8], blocks: &[Block]) {
+        let mut taken = [Eight::all(0); 64];
+        let mut sums = state.map(Wrapping);
+        let (eights, rest) = blocks.as_chunks();
+        for eight in eights {
+            take(&mut taken, eight.each_ref());
+            for i in 0..LANES {
+                rounds(&mut sums, |t| Wrapping(words(&taken)[t][i]));
+            }
+        }
+        *state = sums.map(|word| word.0);
+        plain(state, rest);
+    }
+
+    /// As many blocks of two messages.
+    #[target_feature(enable = "avx2,bmi1,bmi2")]
+    pub fn two(states: &mut [[u32; 8]; 2], messages: [&[Block]; 2]) {
+        let mut taken = [[Eight::all(0); 64]; 2];
+        let mut sums: [Two; 8] = from_fn(|i| Two::of([states[0][i], states[1][i]]));
+        let [(ones, rest), (others, other_rest)] = messages.map(|blocks| blocks.as_chunks());
+        for (one, other) in ones.iter().zip(others) {
+            take(&mut taken[0], one.each_ref());
+            take(&mut taken[1], other.each_ref());
+            let [one, other] = taken.each_ref().map(words);
+            for i in 0..LANES {
+                rounds(&mut sums, |t| Two::of([one[t][i], other[t][i]]));
+            }
+        }
+        states[0] = sums.map(|words| _mm_extract_epi32::<0>(words.0) as u32);
+        states[1] = sums.map(|words| _mm_extract_epi32::<2>(words.0) as u32);
+        plain(&mut states[0], rest);
+        plain(&mut states[1], other_rest);
+    }
+
+    /// As many blocks of eight messages.
+    #[target_feature(enable = "avx2,bmi1,bmi2")]
+    pub fn eight(states: &mut [[u32; 8]; LANES], messages: [&[Block]; LANES]) {
+        let mut taken = [Eight::all(0); 64];
+        let of_word = |i: usize| -> [u32; LANES] { from_fn(|lane| states[lane][i]) };
+        // SAFETY: a vector is eight words.
+        let mut sums: [Eight; 8] = from_fn(|i| unsafe { transmute(of_word(i)) });
+        for at in 0..messages[0].len() {
+            take(&mut taken, messages.map(|blocks| &blocks[at]));
+            rounds(&mut sums, |t| taken[t]);
+        }
+        // SAFETY: as above.
+        let sums: [[u32; LANES]; 8] = unsafe { transmute(sums) };
+        *states = from_fn(|lane| sums.map(|words| words[lane]));
+    }
+
+    /// So many blocks of each message, of which there is one at least and `N` at most.
+    fn step<const N: usize>(
+        lanes: &mut [Lane],
+        count: usize,
+        take: impl Fn(&mut [[u32; 8]; N], [&[Block]; N]),
+    ) {
+        // A place without a message goes with the first, and nobody asks for what it finds.
+        let lane = |i: usize| lanes.get(i).unwrap_or(&lanes[0]);
+        let mut states = from_fn(|i| lane(i).sha.state);
+        let messages = from_fn(|i| &lane(i).left.as_chunks().0[..count]);
+        take(&mut states, messages);
+        for (lane, state) in lanes.iter_mut().zip(states) {
+            lane.sha.state = state;
+            lane.sha.length += 64 * count as u64;
+            lane.left = &lane.left[64 * count..];
+        }
+    }
+
+    /// Each message as far as two are left, and then `alone`.
+    #[target_feature(enable = "avx2,bmi1,bmi2")]
+    pub fn side_by_side<'a>(
+        width: usize,
+        mut messages: impl Iterator<Item = Lane<'a>>,
+        mut alone: impl FnMut(Lane<'a>),
+        advance: &impl Fn(usize),
+    ) {
+        let mut lanes: Vec<Lane> = Vec::with_capacity(width);
+        loop {
+            lanes.extend(messages.by_ref().take(width - lanes.len()));
+            if lanes.len() < 2 {
+                return lanes.into_iter().for_each(alone);
+            }
+            let least = lanes.iter().map(|lane| lane.left.len()).min().unwrap_or(0);
+            let count = least.min(STEP) / 64;
+            match lanes.len() {
+                2 => step(&mut lanes, count, |states, messages| two(states, messages)),
+                _ => step(&mut lanes, count, |states, messages| eight(states, messages)),
+            }
+            advance(64 * count * lanes.len());
+            lanes.extract_if(.., |lane| lane.left.len() < 64).for_each(&mut alone);
+        }
+    }
+}
+
+// Many messages ---------------------------------------------------------------------------
+
+/// So many messages go side by side at most.
+pub const LANES: usize = 8;
+
+/// A step is so long, so that it is told how far the sums are.
+const STEP: usize = 1 << 20;
 
 /// A message on its way.
 struct Lane<'a> {
@@ -213,80 +442,36 @@ struct Lane<'a> {
     left: &'a [u8],
 }
 
-/// As many blocks of eight messages.
-#[inline(always)]
-fn plain_eight(state: &mut [Words<LANES>; 8], messages: [&[[u8; 64]]; LANES]) {
-    for at in 0..messages[0].len() {
-        let taken = schedule(messages.map(|blocks| &blocks[at]));
-        rounds(state, |t| taken[t]);
+/// Whether two messages take less side by side than one after the other.
+pub fn has_lanes() -> bool {
+    match Way::best() {
+        #[cfg(target_arch = "x86_64")]
+        Way::Wide => true,
+        _ => false,
     }
 }
-
-fn eight(state: &mut [Words<LANES>; 8], messages: [&[[u8; 64]]; LANES]) {
-    #[cfg(target_arch = "x86_64")]
-    if wide::there() {
-        // SAFETY: the processor has just been asked.
-        return unsafe { wide::eight(state, messages) };
-    }
-    plain_eight(state, messages);
-}
-
-/// So many blocks of each message, of which there is one at least.
-fn step(lanes: &mut [Lane], count: usize) {
-    let mut state = [Words([0; LANES]); 8];
-    // A lane without a message goes with the first, and nobody asks for what it finds.
-    let mut messages = [&lanes[0].left.as_chunks::<64>().0[..count]; LANES];
-    for (i, lane) in lanes.iter().enumerate() {
-        messages[i] = &lane.left.as_chunks::<64>().0[..count];
-        for (words, word) in state.iter_mut().zip(lane.sha.state) {
-            words.0[i] = word;
-        }
-    }
-    eight(&mut state, messages);
-    for (i, lane) in lanes.iter_mut().enumerate() {
-        lane.sha.state = state.map(|words| words.0[i]);
-        lane.sha.length += 64 * count as u64;
-        lane.left = &lane.left[64 * count..];
-    }
-}
-
-/// The same code over vectors of eight words.
-#[cfg(target_arch = "x86_64")]
-mod wide {
-    use super::{LANES, Words};
-
-    pub fn there() -> bool {
-        is_x86_feature_detected!("avx2")
-            && is_x86_feature_detected!("bmi1")
-            && is_x86_feature_detected!("bmi2")
-    }
-
-    #[target_feature(enable = "avx2,bmi1,bmi2")]
-    pub fn blocks(state: &mut [u32; 8], bytes: &[u8]) {
-        super::plain(state, bytes);
-    }
-
-    #[target_feature(enable = "avx2,bmi1,bmi2")]
-    pub fn eight(state: &mut [Words<LANES>; 8], messages: [&[[u8; 64]]; LANES]) {
-        super::plain_eight(state, messages);
-    }
-}
-
-// Many messages ---------------------------------------------------------------------------
-
-/// A step is so long, so that it is told how far the sums are.
-const STEP: usize = 1 << 20;
 
 /// The sums of the messages that `next` gives, each told with its number; `advance` is told how many bytes are done.
-/// Eight go side by side where the processor has no instructions of its own, for half the time of one after the other.
+/// As many as `width` go side by side where that takes less.
 pub fn sums<'a>(
+    width: usize,
+    next: impl FnMut() -> Option<(usize, &'a [u8])>,
+    told: impl FnMut(usize, Sum),
+    advance: impl Fn(usize),
+) {
+    sums_by(Way::best(), width, next, told, advance);
+}
+
+fn sums_by<'a>(
+    way: Way,
+    width: usize,
     next: impl FnMut() -> Option<(usize, &'a [u8])>,
     mut told: impl FnMut(usize, Sum),
-    mut advance: impl FnMut(usize),
+    advance: impl Fn(usize),
 ) {
-    let mut messages =
-        iter::from_fn(next).map(|(number, left)| Lane { number, sha: Sha256::new(), left });
-    let mut alone = |lane: Lane, advance: &mut dyn FnMut(usize)| {
+    let messages =
+        iter::from_fn(next).map(|(number, left)| Lane { number, sha: Sha256::by(way), left });
+    let alone = |lane: Lane| {
         let Lane { number, mut sha, left } = lane;
         for part in left.chunks(STEP) {
             sha.update(part);
@@ -294,29 +479,18 @@ pub fn sums<'a>(
         }
         told(number, sha.finish());
     };
-    if has_instructions() {
-        return messages.for_each(|lane| alone(lane, &mut advance));
-    }
-    let mut lanes: Vec<Lane> = Vec::with_capacity(LANES);
-    loop {
-        lanes.extend(messages.by_ref().take(LANES - lanes.len()));
-        if lanes.len() < FEW {
-            return lanes.into_iter().for_each(|lane| alone(lane, &mut advance));
-        }
-        let least = lanes.iter().map(|lane| lane.left.len()).min().unwrap_or(0);
-        let count = least.min(STEP) / 64;
-        step(&mut lanes, count);
-        advance(64 * count * lanes.len());
-        for lane in lanes.extract_if(.., |lane| lane.left.len() < 64) {
-            alone(lane, &mut advance);
-        }
+    match (way, width) {
+        // SAFETY: the processor has it.
+        #[cfg(target_arch = "x86_64")]
+        (Way::Wide, 2..) => unsafe { wide::side_by_side(width, messages, alone, &advance) },
+        _ => messages.for_each(alone),
     }
 }
 
 /// The same by the SHA extensions of x86.
 #[cfg(target_arch = "x86_64")]
 mod intel {
-    use super::K;
+    use super::{Block, K};
     use std::arch::x86_64::*;
 
     pub fn there() -> bool {
@@ -327,7 +501,7 @@ mod intel {
 
     /// The instructions want the words a, b, e, f in one register and c, d, g, h in another.
     #[target_feature(enable = "sha,ssse3,sse4.1")]
-    pub fn blocks(state: &mut [u32; 8], bytes: &[u8]) {
+    pub fn blocks(state: &mut [u32; 8], blocks: &[Block]) {
         let swap = _mm_set_epi64x(0x0c0d_0e0f_0809_0a0b, 0x0405_0607_0001_0203);
         // SAFETY: each load and store is of 16 bytes of `state`, of a block of 64, or of `K`.
         unsafe {
@@ -336,7 +510,7 @@ mod intel {
             let second = _mm_shuffle_epi32(_mm_loadu_si128(words.add(1)), 0x1B);
             let mut abef = _mm_alignr_epi8(first, second, 8);
             let mut cdgh = _mm_blend_epi16(second, first, 0xF0);
-            for block in bytes.chunks_exact(64) {
+            for block in blocks {
                 let (old_abef, old_cdgh) = (abef, cdgh);
                 let block = block.as_ptr().cast::<__m128i>();
                 let mut w = [_mm_setzero_si128(); 4];
@@ -381,6 +555,8 @@ pub fn hex(bytes: &[u8]) -> String {
 #[cfg(test)]
 mod tests {
     use super::*;
+    use std::cell::Cell;
+    use std::collections::HashMap;
 
     fn sum(parts: &[&[u8]]) -> String {
         let mut sha = Sha256::new();
@@ -415,50 +591,84 @@ mod tests {
         );
     }
 
-    /// The vectors above go through one of the ways; the others agree with it.
+    /// Those that the processor has.
+    fn ways() -> Vec<Way> {
+        vec![
+            #[cfg(target_arch = "x86_64")]
+            wide::there().then_some(Way::Wide),
+            #[cfg(target_arch = "x86_64")]
+            intel::there().then_some(Way::Intel),
+            Some(Way::Plain),
+        ]
+        .into_iter()
+        .flatten()
+        .collect()
+    }
+
+    fn of(message: &[u8], way: Way) -> Sum {
+        let mut sha = Sha256::by(way);
+        sha.update(message);
+        sha.finish()
+    }
+
+    fn bytes(count: usize) -> Vec<u8> {
+        (0..count as u32).map(|i| (i.wrapping_mul(i) / 11) as u8).collect()
+    }
+
+    /// The vectors above go through the best way; the others agree with it.
     #[test]
     fn the_ways_agree() {
-        let bytes: Vec<u8> = (0..64 * 40u32).map(|i| (i * i / 7) as u8).collect();
-        for count in 0..40 {
-            let (mut one, mut other, mut single) = (START, START, START);
-            blocks(&mut one, &bytes[..64 * count]);
-            plain(&mut other, &bytes[..64 * count]);
-            bytes[..64 * count].chunks(64).for_each(|block| plain(&mut single, block));
-            assert_eq!((one, one), (other, single));
+        let bytes = bytes(64 * 40);
+        for start in 0..9 {
+            for end in (start..start + 700).chain(bytes.len() - 70..=bytes.len()) {
+                let wanted = of(&bytes[start..end], Way::best());
+                for way in ways() {
+                    assert_eq!(of(&bytes[start..end], way), wanted, "{start} {end}");
+                }
+            }
         }
-        // Both have the message "abc", in one block.
-        let mut block = [0; 64];
-        block[..4].copy_from_slice(&[b'a', b'b', b'c', 0x80]);
-        block[63] = 24;
-        for way in [blocks, plain] {
-            let mut state = START;
-            way(&mut state, &block);
-            assert_eq!(state[0], 0xba78_16bf);
-            assert_eq!(state[7], 0xf200_15ad);
+        for way in ways() {
+            assert_eq!(
+                hex(&of(b"abc", way)),
+                "ba7816bf8f01cfea414140de5dae2223b00361a396177a9cb410ff61f20015ad"
+            );
         }
     }
 
-    /// Side by side each message has its own sum, whatever their number and lengths, and each byte is counted once.
+    /// Each message has its own sum and is told once, and each byte is counted once.
+    fn hold(way: Way, width: usize, messages: &[&[u8]]) {
+        let (mut given, mut found) = (messages.iter().copied().enumerate(), HashMap::new());
+        let done = Cell::new(0);
+        let told = |i, sum| assert_eq!(found.insert(i, sum), None);
+        sums_by(way, width, || given.next(), told, |count| done.set(done.get() + count));
+        assert_eq!(done.get(), messages.iter().map(|message| message.len()).sum::<usize>());
+        for (i, message) in messages.iter().enumerate() {
+            assert_eq!(found[&i], of(message, Way::Plain), "{width} {} {i}", messages.len());
+        }
+    }
+
     #[test]
     fn messages_side_by_side() {
-        let bytes: Vec<u8> = (0..40_000u32).map(|i| (i * i / 11) as u8).collect();
+        let bytes = bytes(40_000);
         for count in 0..30 {
             let message = |i: usize| &bytes[i * 7..][..(i * i * 37) % (1 + 1000 * (count % 7))];
-            let (mut given, mut found, mut done) = (0..count, vec![[0; 32]; count], 0);
-            let next = || given.next().map(|i| (i, message(i)));
-            let mut told = 0;
-            sums(
-                next,
-                |i, sum| {
-                    assert_eq!(found[i], [0; 32]);
-                    (found[i], told) = (sum, told + 1);
-                },
-                |length| done += length,
-            );
-            assert_eq!(told, count);
-            assert_eq!(done, (0..count).map(|i| message(i).len()).sum::<usize>());
-            for (i, found) in found.iter().enumerate() {
-                assert_eq!(hex(found), sum(&[message(i)]), "{count} {i}");
+            let messages: Vec<&[u8]> = (0..count).map(message).collect();
+            for way in ways() {
+                for width in [1, 2, 3, LANES] {
+                    hold(way, width, &messages);
+                }
+            }
+        }
+    }
+
+    /// Of many lengths about the ends of blocks and of eight blocks, in many places.
+    #[test]
+    fn two_side_by_side() {
+        let bytes = bytes(3000);
+        for one in (0..1100).step_by(13) {
+            for other in (0..1100).step_by(37) {
+                let messages = [&bytes[other % 64..][..one], &bytes[one..][..other]];
+                ways().into_iter().for_each(|way| hold(way, 2, &messages));
             }
         }
     }

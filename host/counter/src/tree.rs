@@ -14,7 +14,7 @@ use std::io::Write;
 
 // list ------------------------------------------------------------------------------------
 
-/// The scope paper's listing, for an image of any size.
+/// The listing (RULES), for an image of any size.
 pub fn list(args: &Args) -> Outcome<()> {
     let (image, mut desk, disc) = match opened(args.image.as_deref()) {
         Ok(opened) => opened,

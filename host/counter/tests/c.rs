@@ -64,7 +64,7 @@ fn the_worked_example_does_what_the_program_does() {
         .output()
         .unwrap()
         .into();
-    // The scope paper's listing; P2 has the place, P5 the free regions after the move.
+    // The small master's listing; P2 has the place, P5 the free regions after the move.
     let sum: u32 = (0..0x100u32).map(|i| i ^ 0x5A).sum();
     let wanted = format!(
         "8192 bytes, 1370 of them used, 2 entries\n\
@@ -194,7 +194,7 @@ fn the_header_compiles_alone_as_c_and_as_c_plus_plus() {
 }
 
 #[test]
-fn causes_and_limits_are_those_of_the_paper() {
+fn causes_and_limits_are_those_of_the_rules() {
     let header = fs::read_to_string(include().join("counter.h")).unwrap();
     let table = header.split("causes[] = {\n").nth(1).unwrap().split("};").next().unwrap();
     let causes: Vec<&str> = table
@@ -206,8 +206,7 @@ fn causes_and_limits_are_those_of_the_paper() {
     for (number, cause) in causes.iter().enumerate().skip(1) {
         assert!(exit.contains(&format!("{number:2}  refused: {cause}\n")), "{number} {cause}");
     }
-    // "count over 16,384 (9)", "texts over 1,048,576 bytes (9)", "working words under 4 x (entries + 2)
-    // (9)", "directory deeper than 64", "path over 1,024 bytes".
+    // RULES, Limits; and what an image within them wants to be lent at most.
     for line in [
         "#define COUNTER_MOST_ENTRIES 16384 ",
         "#define COUNTER_MOST_TEXT 1048576 ",
@@ -219,7 +218,7 @@ fn causes_and_limits_are_those_of_the_paper() {
     ] {
         assert!(header.contains(line), "{line}");
     }
-    for paper in ["01", "scope paper", "Rust", "unplug"] {
-        assert!(!header.contains(paper), "{paper}");
+    for word in ["01", "Rust", "unplug"] {
+        assert!(!header.contains(word), "{word}");
     }
 }

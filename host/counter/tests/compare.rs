@@ -756,7 +756,7 @@ impl Pair {
 
 #[test]
 fn a_line_of_the_list_gives_leave_for_a_field_of_the_header() {
-    // The fields and their places, from the scope paper; FST offset and the magics would make another disc.
+    // The fields and their places (FORMAT, The header); FST offset and the magics would make another disc.
     let fields: [(&str, u64); 17] = [
         ("game code", 0),
         ("maker", 4),
@@ -905,6 +905,28 @@ fn a_manifest_is_one_of_sha256sum_too() {
     fs::write(files.join("opening.bnr"), b"x").unwrap();
     let held = sha256sum(&["--check", manifest.to_str().unwrap()]);
     assert_eq!(held.status, 1);
+}
+
+/// Long files are summed beside the image, wherever in a block they begin.
+#[test]
+fn long_files_have_their_sums() {
+    const START: u32 = 0x10_0000;
+    let temp = Temp::new();
+    for (count, odd) in (1..=6u32).flat_map(|count| [0, 4, 33].map(|odd| (count, odd))) {
+        // The first is the longest.
+        let room = 0x18_0000 / count;
+        let long = |i: u32| file(format!("{i}.bin"), START + i * room + odd, room - odd - i * 123);
+        let image = temp.at(&format!("{count}-{odd}.iso"));
+        sparse(&image, &(0..count).map(long).collect::<Vec<_>>(), START + 0x18_0000);
+        let bytes = fs::read(&image).unwrap();
+        let table = read_table(&fs::File::open(&image).unwrap());
+        let text = done("hash", &image, &[]);
+        assert!(text.contains(&format!("# image {} ", sha256(&bytes))), "{text}");
+        for entry in table.entries.iter().filter(|entry| !entry.folder) {
+            let sum = sha256(&bytes[entry.offset as usize..][..entry.size as usize]);
+            assert!(text.contains(&format!("\n{sum}  {}\n", &entry.path[1..])), "{text}");
+        }
+    }
 }
 
 #[test]

@@ -16,7 +16,7 @@ fn free_of(image: &Path) -> Vec<(u64, u64)> {
     Table::of(image).free()
 }
 
-// Move and resize, as the paper marks them ---------------------------------------------------
+// Move and resize, as the worked examples have them -------------------------------------------
 
 #[test]
 fn move_overlapping_itself_or_into_the_table_is_refused() {

@@ -11,7 +11,7 @@ use support::*;
 const END: u32 = 0x20_0000;
 
 #[test]
-fn built_in_small_master_is_listed_as_the_paper_has_it() {
+fn built_in_small_master_is_listed() {
     let listing = "total 8192 used 1370\nd 0 0 2 /\nf 1 1280 256 /a\nr 1114 166\nr 1536 6656\n";
     let run = run(&["list"]);
     assert_eq!((run.status, run.out.as_str()), (0, listing));
@@ -160,7 +160,7 @@ fn tree_shows_folders_and_sizes() {
 }
 
 #[test]
-fn find_answers_as_the_paper_marks_it() {
+fn find_answers_as_the_worked_examples_do() {
     let temp = Temp::new();
     let image = temp.write("small.iso", &small_master());
     // P1: the largest size of `a`; P9 to P11: lookups.
@@ -492,7 +492,7 @@ fn names_with_odd_signs_are_kept_apart_from_markup() {
 }
 
 #[test]
-fn place_answers_as_the_paper_marks_it() {
+fn place_answers_as_the_worked_examples_do() {
     let temp = Temp::new();
     let image = temp.write("small.iso", &small_master());
     // P2, P3, and a number that is no power of two.
@@ -951,7 +951,7 @@ fn help_documents_commands_statuses_and_safety() {
         assert!(run_help.out.contains(&format!("counter {command} ")), "{command}");
         assert!(run(&["help", command]).out.contains(&format!("counter {command} ")));
     }
-    // The causes are the scope paper's table, word for word, and what joined it.
+    // The causes, word for word and in their order.
     let causes = [
         "header field past the image",
         "Wii magic",

@@ -600,7 +600,7 @@ fn refusals_name_the_byte_or_the_lead_byte() {
         let run = on(args[0], &image, &args[1..]);
         assert!(run.err.contains(words), "{args:?}: {}", run.err);
     }
-    // A stray lead byte counts for itself: what follows is judged afresh.
+    // A stray lead byte counts for itself: what follows is looked at anew.
     refused(&image, &["mkdir", r"\x81//.."], 12);
     let run = within(SJIS, "add", &image, &[b"\x95\x5c/x"]);
     assert_eq!(run.err, "counter: \\x95\\x5c: refused 18: not found\n");

@@ -1,6 +1,6 @@
 //! The record: what every edit says of used bytes, the largest free region and the edits so far, and the
-//! file that keeps it between runs. The numbers that are wanted come from the scope paper's small master,
-//! by hand, and from the tests' own reader of tables; none from libcounter.
+//! file that keeps it between runs. The numbers that are wanted come from the small master, by hand, and
+//! from the tests' own reader of tables; none from libcounter.
 
 mod support;
 

@@ -262,7 +262,7 @@ impl State {
         Ok(out)
     }
 
-    /// Document 01's listing, built of what the other calls say; `counter_list` says the same.
+    /// The listing, built of what the other calls say; `counter_list` says the same.
     fn listing(&mut self) -> Answer<String> {
         let [_, _, total, _, used] = self.lender.open()?;
         let mut out = format!("total {total} used {used}\n").into_bytes();

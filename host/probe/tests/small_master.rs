@@ -1,4 +1,4 @@
-//! The probe on the scope paper's small master: its listing, P1 to P12, every refusal number once,
+//! The probe on the small master: its listing, P1 to P12, every refusal number once,
 //! free regions in clusters, a program behind the table or before it, lists of edits, files filled
 //! from given bytes, records, the stated table maximum, and calls with too little memory or too short
 //! a list.

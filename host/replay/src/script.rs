@@ -100,7 +100,7 @@ mod tests {
     #[test]
     fn words_texts_answers_and_comments() {
         let script =
-            "# a note\nlend 0x10 26 4\nlookup 0 \"a # = b\" = 17  # 01: why\n\npatch 1 :00ff\n";
+            "# a note\nlend 0x10 26 4\nlookup 0 \"a # = b\" = 17  # rules: why\n\npatch 1 :00ff\n";
         let all = lines(script).unwrap();
         assert_eq!(all.len(), 3);
         assert_eq!(all[0].left, part(&["lend", "0x10", "26", "4"], b""));

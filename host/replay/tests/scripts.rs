@@ -28,7 +28,7 @@ fn of(line: &str) -> Vec<String> {
 }
 
 #[test]
-fn right_answers_of_the_paper() {
+fn right_answers_of_the_small_master() {
     for line in [
         "max_file_size 1 = 0 0x1b00",
         "allocate 0x100 0x100 = 0 0x600 0x1a00",

@@ -3,7 +3,7 @@
 
 use counter_sys::{Entry, Memory, Opened, Record, Region, Window};
 
-/// The scope paper's small master.
+/// The small master.
 fn small_master() -> Vec<u8> {
     let mut image = vec![0; 0x2000];
     let mut put = |at: usize, bytes: &[u8]| image[at..at + bytes.len()].copy_from_slice(bytes);
@@ -15,7 +15,7 @@ fn small_master() -> Vec<u8> {
     image
 }
 
-/// Its listing, in the scope paper's words.
+/// Its listing.
 const LISTING: &[u8] =
     b"total 8192 used 1370\nd 0 0 2 /\nf 1 1280 256 /a\nr 1114 166\nr 1536 6656\n";
 
@@ -333,7 +333,7 @@ fn a_program_before_the_table() {
     assert_eq!(words, [0; 16]);
 }
 
-/// "header field past the image" comes before every other cause, whatever is lent.
+/// Cause 1 comes before every other one, whatever is lent.
 #[test]
 fn an_empty_image() {
     let mut image = [];

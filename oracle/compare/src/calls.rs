@@ -1,8 +1,8 @@
 //! Calls, how they are written, and how they are made up for an image.
 
 use crate::names;
-use crate::paper::{self, Tree};
 use crate::random::Random;
+use crate::rules::{self, Tree};
 
 #[derive(Clone, Debug, PartialEq)]
 pub enum Call {
@@ -485,7 +485,7 @@ fn resize_file(r: &mut Random, tree: &Tree) -> Call {
         1 => 0,
         2 => r.below(size.max(1) as usize) as u64,
         3 | 4 => tree.most(at, size),
-        5 | 6 => match tree.place(0, paper::ALIGN) {
+        5 | 6 => match tree.place(0, rules::ALIGN) {
             Some((_, rest)) => rest,
             None => size + 1,
         },
@@ -502,7 +502,7 @@ pub fn fill(r: &mut Random, tree: &Tree, image: usize) -> Call {
     let entry = tree.entries.get(number as usize);
     let (at, size) = entry.map_or((0, 0), |e| (e.offset as u64, e.size as u64));
     let most = tree.most(at, size);
-    let place = tree.place(0, paper::ALIGN).map_or(most, |(_, rest)| rest);
+    let place = tree.place(0, rules::ALIGN).map_or(most, |(_, rest)| rest);
     let length = match r.below(16) {
         0 | 1 => size,
         2 => 0,

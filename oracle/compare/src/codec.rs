@@ -5,7 +5,7 @@
 use crate::calls::hex;
 use crate::child::Side;
 use crate::judge::Class;
-use crate::paper::{self, Tree};
+use crate::rules::{self, Tree};
 use std::collections::{BTreeMap, BTreeSet};
 use std::ops::RangeInclusive;
 
@@ -47,9 +47,9 @@ impl Codec {
         self.0[number(unit)]
     }
 
-    /// The entry for a name or path that does not come back, or that comes back although 02 has no such name.
+    /// The entry for a name or path that does not come back, or that comes back although the rules have no such name.
     pub fn class(&self, text: &[u8]) -> Option<Class> {
-        let class = |unit| match (paper::fit(unit), self.fate(unit)) {
+        let class = |unit| match (rules::fit(unit), self.fate(unit)) {
             (true, Fate::Same) => None,
             (false, Fate::Unknown) => Some(Class::NotText),
             (true, Fate::Unknown) => Some(Class::UnknownPair),
@@ -57,12 +57,12 @@ impl Codec {
             (true, Fate::Other) => Some(Class::OtherPair),
             (false, _) => Some(Class::NameBytes),
         };
-        paper::units(text).filter_map(class).min()
+        rules::units(text).filter_map(class).min()
     }
 
     /// Whether the original reads a text from these bytes.
     pub fn reads(&self, text: &[u8]) -> bool {
-        paper::units(text).all(|unit| self.fate(unit) != Fate::Unknown)
+        rules::units(text).all(|unit| self.fate(unit) != Fate::Unknown)
     }
 }
 
@@ -86,7 +86,7 @@ pub struct StandIns {
 
 impl StandIns {
     fn of(&mut self, codec: &Codec, unit: &[u8]) -> Vec<u8> {
-        if !paper::fit(unit) {
+        if !rules::fit(unit) {
             return pair(UNFIT, unit[0].into());
         }
         if let Some(other) = self.by_unit.get(unit) {
@@ -106,12 +106,12 @@ impl StandIns {
     /// The text that the original is asked about, in bytes.
     pub fn twin(&mut self, codec: &Codec, text: &[u8]) -> Vec<u8> {
         let reserved = |unit: &&[u8]| unit.len() == 2 && STAND_INS.contains(&unit[0]);
-        for unit in paper::units(text).filter(reserved) {
+        for unit in rules::units(text).filter(reserved) {
             if !self.by_unit.values().any(|other| other == unit) {
                 self.met.insert(unit.to_vec());
             }
         }
-        paper::units(text).flat_map(|unit| self.of(codec, unit)).collect()
+        rules::units(text).flat_map(|unit| self.of(codec, unit)).collect()
     }
 
     /// The text that a twin stands for.
@@ -123,14 +123,14 @@ impl StandIns {
         if self.by_unit.is_empty() {
             twin.to_vec()
         } else {
-            paper::units(twin).flat_map(of).collect()
+            rules::units(twin).flat_map(of).collect()
         }
     }
 
     /// The same for all names of an image.
     pub fn image_back(&self, twin: &[u8]) -> Vec<u8> {
         let mut image = twin.to_vec();
-        for name in paper::names(twin) {
+        for name in rules::names(twin) {
             image[name.clone()].copy_from_slice(&self.back(&twin[name]));
         }
         image
@@ -155,7 +155,7 @@ impl Others {
         image: &[u8],
         tree: &Tree,
     ) -> Result<Option<Self>, Mixed> {
-        let names = paper::names(image);
+        let names = rules::names(image);
         let class = names.iter().filter_map(|name| codec.class(&image[name.clone()])).min();
         let Some(class) = class else { return Ok(None) };
         let mut twin = image.to_vec();

@@ -2,7 +2,7 @@
 
 use crate::calls::Call;
 use crate::judge::{New, keeps_size, new_place, no_room, record_after, used_after};
-use crate::paper::{self, Entry, Record, Refusal, Tree, stray, word};
+use crate::rules::{self, Entry, Record, Refusal, Tree, stray, word};
 use std::collections::BTreeMap;
 
 /// Those that are met.
@@ -13,7 +13,7 @@ fn of(cases: &[(bool, &'static str)]) -> Vec<&'static str> {
 /// What stands out about the program of an image that opens, or that only its program keeps from it.
 pub fn of_program(image: &[u8], opened: &Result<Tree, Refusal>) -> Vec<&'static str> {
     let number = opened.as_ref().map_or_else(|refusal| refusal.number, |_| 0);
-    if !matches!(number, 0 | 14 | 24) || number == 14 && paper::files_are_bad(image) {
+    if !matches!(number, 0 | 14 | 24) || number == 14 && rules::files_are_bad(image) {
         return vec![];
     }
     let at = word(image, 0x420) as u64;
@@ -21,15 +21,15 @@ pub fn of_program(image: &[u8], opened: &Result<Tree, Refusal>) -> Vec<&'static 
         return vec!["program: none"];
     }
     let length = image.len() as u64;
-    let Some(size) = paper::dol_size(image, at) else {
-        let by_one = at + paper::DOL_HEADER == length + 1;
+    let Some(size) = rules::dol_size(image, at) else {
+        let by_one = at + rules::DOL_HEADER == length + 1;
         return if by_one { vec!["program: its header one byte past the image"] } else { vec![] };
     };
     let (fst_offset, fst_size) = (word(image, 0x424) as u64, word(image, 0x428) as u64);
     let disc_end = word(image, 0x434) as u64 + word(image, 0x438) as u64;
-    let (table_end, end) = (fst_offset + fst_size, at + size.max(paper::DOL_HEADER));
+    let (table_end, end) = (fst_offset + fst_size, at + size.max(rules::DOL_HEADER));
     let (before, behind) = (at >= 0x440 && end <= fst_offset, at >= table_end);
-    let files = paper::files_of(image);
+    let files = rules::files_of(image);
     let starts = |at: u64| files.iter().any(|(start, _)| *start == at);
     let ends = |at: u64| files.iter().any(|(start, size)| start + size == at);
     let met: &[(bool, &'static str)] = match number {
@@ -42,8 +42,8 @@ pub fn of_program(image: &[u8], opened: &Result<Tree, Refusal>) -> Vec<&'static 
             (behind && starts(end), "program: right before a file"),
             (behind && ends(at), "program: right behind a file"),
             (end == disc_end, "program: up to the disc end"),
-            (at + paper::DOL_HEADER == length, "program: its header up to the image's end"),
-            (size < paper::DOL_HEADER, "program: file size below 0xE4"),
+            (at + rules::DOL_HEADER == length, "program: its header up to the image's end"),
+            (size < rules::DOL_HEADER, "program: file size below 0xE4"),
         ],
         14 => &[
             (at + 1 == 0x440 && end <= fst_offset, "program: one byte below 0x440"),
@@ -65,13 +65,13 @@ pub fn of_names(image: &[u8], opened: &Result<Tree, Refusal>) -> Vec<&'static st
     let tree = match opened {
         Ok(tree) => tree,
         Err(refusal) if matches!(refusal.number, 12 | 13) => {
-            let name = paper::name(image, refusal.entry).map(|name| &image[name]);
+            let name = rules::name(image, refusal.entry).map(|name| &image[name]);
             return of_refused_name(name.unwrap_or(b""), refusal.number);
         }
         Err(_) => return vec![],
     };
     let names: Vec<&[u8]> = tree.entries[1..].iter().map(|entry| &entry.name[..]).collect();
-    let any = |is: fn(&[u8]) -> bool| names.iter().any(|name| paper::units(name).any(is));
+    let any = |is: fn(&[u8]) -> bool| names.iter().any(|name| rules::units(name).any(is));
     let cases = [
         (any(|u| matches!(u, [0xa1..=0xdf])), "name: a byte 0xA1 to 0xDF"),
         (any(|u| matches!(u, [0xa1 | 0xdf])), "name: a byte 0xA1 or 0xDF"),
@@ -93,10 +93,10 @@ pub fn of_names(image: &[u8], opened: &Result<Tree, Refusal>) -> Vec<&'static st
 /// Whether a name of the image starts at the second byte of a pair of another.
 fn begins_inside(image: &[u8]) -> bool {
     let names: BTreeMap<usize, usize> =
-        paper::names(image).into_iter().map(|name| (name.start, name.end)).collect();
+        rules::names(image).into_iter().map(|name| (name.start, name.end)).collect();
     names.iter().any(|(start, end)| {
         let mut at = *start;
-        paper::units(&image[*start..*end]).any(|unit| {
+        rules::units(&image[*start..*end]).any(|unit| {
             at += unit.len();
             unit.len() == 2 && names.contains_key(&(at - 1))
         })
@@ -104,7 +104,7 @@ fn begins_inside(image: &[u8]) -> bool {
 }
 
 fn of_refused_name(name: &[u8], number: u32) -> Vec<&'static str> {
-    let units: Vec<&[u8]> = paper::units(name).collect();
+    let units: Vec<&[u8]> = rules::units(name).collect();
     let beside = |is: fn(&[u8]) -> bool| units.windows(2).any(|two| stray(two[0]) && is(two[1]));
     let behind_pair = units.windows(2).any(|two| two[0].len() == 2 && two[1] == b"\\");
     let cases = match number {
@@ -130,7 +130,7 @@ pub fn of_text(call: &Call, expected: &str) -> Vec<&'static str> {
     let Some(text) = call.text().filter(|text| text.iter().any(|b| *b >= 0x80)) else {
         return vec![];
     };
-    let (accepted, units) = (expected.starts_with("ok"), paper::units(text).collect::<Vec<_>>());
+    let (accepted, units) = (expected.starts_with("ok"), rules::units(text).collect::<Vec<_>>());
     let pairs = units.iter().any(|unit| unit.len() == 2);
     let trail = units.iter().any(|unit| matches!(unit, [_, b'\\']));
     let strays = units.iter().any(|unit| stray(unit));
@@ -421,10 +421,10 @@ fn of_size(
     }
     let places = |rest: u64| {
         let rest_of =
-            |(at, len): &(u64, u64)| (at + len).checked_sub(at.next_multiple_of(paper::ALIGN));
+            |(at, len): &(u64, u64)| (at + len).checked_sub(at.next_multiple_of(rules::ALIGN));
         tree.free.iter().filter(|region| rest_of(region) == Some(rest)).count()
     };
-    if accepted && !here && tree.place(size, paper::ALIGN).is_some_and(|(_, rest)| places(rest) > 1)
+    if accepted && !here && tree.place(size, rules::ALIGN).is_some_and(|(_, rest)| places(rest) > 1)
     {
         met.push(named(
             "resize: growth elsewhere, and the largest place occurs twice",
@@ -449,7 +449,7 @@ fn of_size(
 /// A clip of `size` bytes for `file`.
 fn of_clip(met: &mut Vec<&'static str>, tree: &Tree, file: &Entry, size: u64, expected: &str) {
     let (old, most) = (file.size as u64, tree.most(file.offset as u64, file.size as u64));
-    let rest = tree.place(0, paper::ALIGN).map_or(0, |(_, rest)| rest);
+    let rest = tree.place(0, rules::ALIGN).map_or(0, |(_, rest)| rest);
     let (accepted, no_space) = (expected.starts_with("ok"), expected == "err 21");
     let cases = [
         (accepted && size == old + 1, "fill: one byte more than the file has"),
@@ -584,7 +584,7 @@ fn of_edit(
             }),
             _ => (),
         }
-        if new.depth == paper::DEPTH {
+        if new.depth == rules::DEPTH {
             met.push("depth: a new directory at 64");
         }
     }

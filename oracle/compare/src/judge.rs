@@ -1,9 +1,9 @@
-//! What Counter has to answer, from the original's answer and documents 01 and 02, and which entry
-//! of docs/DIFFERENCES.md the two differ under.
+//! What Counter has to answer, from the original's answer and the rules, and which entry of
+//! docs/DIFFERENCES.md the two differ under.
 
 use crate::calls::{Call, hex, unhex};
 use crate::codec::Codec;
-use crate::paper::{self, Bound, Entry, Record, Refusal, Tree, word};
+use crate::rules::{self, Bound, Entry, Record, Refusal, Tree, word};
 use std::fmt::Write as _;
 
 /// The entries of docs/DIFFERENCES.md that a comparison can meet.
@@ -87,7 +87,7 @@ pub const CLASSES: [(Class, &str); 28] = [
 /// A call and what it is made on.
 pub struct Given<'a> {
     pub image: &'a [u8],
-    /// What 01's opening says, with the words lent.
+    /// What opening says by the rules, with the words lent.
     pub opened: &'a Result<Tree, Refusal>,
     pub call: &'a Call,
     pub words: usize,
@@ -106,7 +106,7 @@ pub struct Verdict {
     pub class: Option<Class>,
 }
 
-/// 01's number for a kind of the original's errors.
+/// The number for a kind of the original's errors.
 fn number(kind: &str) -> Option<u32> {
     Some(match kind {
         "Io:UnexpectedEof" | "Text:Other:Io:UnexpectedEof" => 1,
@@ -199,25 +199,25 @@ fn refused(number: u32) -> String {
     format!("err {number}")
 }
 
-/// Whether the original meets a pair that it does not read before it comes to what 01 and 02 refuse.
+/// Whether the original meets a pair that it does not read before it comes to what the rules refuse.
 fn unknown_before(codec: &Codec, image: &[u8], refusal: Refusal) -> bool {
     let last = match refusal.number {
         10 | 13 => refusal.entry,
         11 => refusal.entry - 1,
         _ => usize::MAX,
     };
-    let mut names = paper::names(image).into_iter().take(last);
+    let mut names = rules::names(image).into_iter().take(last);
     names.any(|name| codec.class(&image[name]) == Some(Class::UnknownPair))
 }
 
-/// The entry for an image that 01 or 02 refuses, where the original answers `answer` to the call.
+/// The entry for an image that the rules refuse, where the original answers `answer` to the call.
 fn class_of_refusal(given: &Given, refusal: Refusal, answer: &str) -> Option<Class> {
     let (image, call) = (given.image, given.call);
     if answer == "err Text:NoNulTerminator" {
         return (odd_name(image) == Some(Class::NameWithoutZero)).then_some(Class::NameWithoutZero);
     }
     let entry = refusal.entry;
-    let files_are_bad = || paper::files_are_bad(image);
+    let files_are_bad = || rules::files_are_bad(image);
     if matches!(refusal.number, 9..=13 | 24) && answer == "panic" && files_are_bad() {
         return Some(Class::RegionsFirst);
     }
@@ -231,7 +231,7 @@ fn class_of_refusal(given: &Given, refusal: Refusal, answer: &str) -> Option<Cla
     let opened =
         opens(answer) || answer == "panic" && matches!(call, Call::Alloc(..) | Call::MaxRegion(..));
     match refusal.number {
-        4 => Some(match paper::bounds(image).unwrap() {
+        4 => Some(match rules::bounds(image).unwrap() {
             Bound::FstOffset | Bound::ImageShort => Class::Bounds,
             Bound::DiscEnd => Class::Sums,
             Bound::TableEnd => {
@@ -247,7 +247,7 @@ fn class_of_refusal(given: &Given, refusal: Refusal, answer: &str) -> Option<Cla
         9 => Some(Class::Limits),
         10 => refusal.past_parent.then_some(Class::NestedNext),
         12 => {
-            let name = paper::name(image, entry).unwrap();
+            let name = rules::name(image, entry).unwrap();
             given.codec.reads(&image[name]).then_some(Class::NameBytes)
         }
         14 if files_are_bad() => (answer == "panic" || opened).then_some(Class::Regions),
@@ -274,7 +274,7 @@ fn made(tree: &Tree, start: usize, path: &[u8]) -> Option<Vec<(usize, usize)>> {
     let old = tree.entries.len();
     let mut new: Vec<(usize, &[u8], usize)> = vec![]; // parent, name, depth
     let (mut at, mut stack) = (start, vec![]);
-    for part in paper::components(path) {
+    for part in rules::components(path) {
         if at < old && !tree.entries[at].directory {
             return None;
         }
@@ -337,9 +337,9 @@ impl New {
 
     /// 9, by the tree's limits or by the memory lent.
     fn past_limits(&self, given: &Given) -> bool {
-        self.entries > paper::ENTRIES
-            || self.texts > paper::TEXTS
-            || self.depth > paper::DEPTH
+        self.entries > rules::ENTRIES
+            || self.texts > rules::TEXTS
+            || self.depth > rules::DEPTH
             || given.words < 4 * (self.entries + 2)
             || (given.bytes as u64) < self.size()
     }
@@ -368,7 +368,7 @@ pub fn new_place(tree: &Tree, call: &Call) -> Option<(u64, u64)> {
     if size <= old || size <= tree.most(offset, old) {
         return Some((offset, size));
     }
-    Some((tree.place(size, paper::ALIGN)?.0, size))
+    Some((tree.place(size, rules::ALIGN)?.0, size))
 }
 
 /// The table's end and all other used regions after an edit, by its new table and the place that it
@@ -407,13 +407,13 @@ pub fn record_after(tree: &Tree, call: &Call, record: Record) -> Result<Option<R
         regions_after(tree, call).ok_or("accepted, and there is no place")?;
     let used = used_after(tree, call).unwrap();
     let free =
-        paper::free(regions, table_end, tree.disc_end).map_err(|_| "accepted over a file")?;
-    Ok(record.moved(tree.used(), used, paper::largest(&free)))
+        rules::free(regions, table_end, tree.disc_end).map_err(|_| "accepted over a file")?;
+    Ok(record.moved(tree.used(), used, rules::largest(&free)))
 }
 
 /// A growth that finds another place, on an image with a program behind its table: the original
-/// would grow over the program, or look for a place in it, so it is told the place that 02 leaves.
-/// A fill is then asked for once more, of the file's own size.
+/// would grow over the program, or look for a place in it, so it is told the place. A fill is then
+/// asked for once more, of the file's own size.
 pub fn told_where(tree: &Tree, call: &Call) -> Option<String> {
     let (number, _) = call.resizes()?;
     tree.behind()?;
@@ -512,8 +512,8 @@ fn judge_edit(tree: &Tree, given: &Given, answer: &str) -> Result<Verdict, Strin
     Ok(Verdict { expected: told, class })
 }
 
-/// 02: "A clip above 2^32 - 1 bytes finds no place and is 21." 15 and 16 come before it; the
-/// original panics before it looks at the entry.
+/// A clip above 2^32 - 1 bytes is 21, behind 15 and 16; the original panics before it looks at the
+/// entry.
 fn judge_long_clip(tree: &Tree, number: u32, answer: &str) -> Result<Verdict, String> {
     let expected = match tree.entries.get(number as usize) {
         None => refused(15),
@@ -588,12 +588,12 @@ fn regions_of(told: &str) -> Regions {
 /// The record that is made of an image with these free regions: what is not free is used.
 fn record_by(regions: &Regions, disc_end: u64) -> String {
     let used = disc_end - regions.iter().map(|(_, size)| size).sum::<u64>();
-    format!("ok {}", Record { used, largest: paper::largest(regions), edits: 0 })
+    format!("ok {}", Record { used, largest: rules::largest(regions), edits: 0 })
 }
 
-/// What the original says of free space, on an image with a program behind its table. 02: "The
-/// Rust's free list is compared after the program is taken out of it, and its largest sizes,
-/// allocations and edits only on images whose program lies before the table or is absent."
+/// What the original says of free space, on an image with a program behind its table, which it
+/// takes for free: its free list is compared without the program's bytes, and the rest of it not at
+/// all.
 fn judge_space(
     tree: &Tree,
     given: &Given,
@@ -720,9 +720,8 @@ fn above_maximum(tree: &Tree, call: &Call) -> bool {
         && New::of(tree, call).is_some_and(|new| tree.forbids(new.size()))
 }
 
-/// `answer`: the original's; `twin`: its answer to the call's twin, if it has one. 02: "New numbers: 26,
-/// new table above the maximum, tested just before the table's 21"; "New numbers: 25, used bytes or edit
-/// count would leave 0 to 2^32 - 1, tested last."
+/// `answer`: the original's; `twin`: its answer to the call's twin, if it has one. 26 comes just
+/// before the table's 21, and 25 last.
 pub fn judge(given: &Given, answer: &str, twin: Option<&str>) -> Result<Verdict, String> {
     let verdict = judge_call(given, answer, twin)?;
     if let Ok(tree) = given.opened
@@ -747,7 +746,7 @@ fn judge_call(given: &Given, answer: &str, twin: Option<&str>) -> Result<Verdict
         return Ok(Verdict { expected: told, class: None });
     }
     if let Call::Header = given.call {
-        let expected = match paper::header(given.image) {
+        let expected = match rules::header(given.image) {
             Ok(()) => header_line(given.image),
             Err(number) => refused(number),
         };
@@ -768,7 +767,7 @@ fn judge_call(given: &Given, answer: &str, twin: Option<&str>) -> Result<Verdict
                 return Ok(Verdict { expected, class });
             }
             let class = class_of_refusal(given, *refusal, &told);
-            let class = class.ok_or_else(|| format!("01 refuses with {refusal:?}"))?;
+            let class = class.ok_or_else(|| format!("the rules refuse with {refusal:?}"))?;
             return Ok(Verdict { expected, class: Some(class) });
         }
     };
@@ -781,7 +780,7 @@ fn judge_call(given: &Given, answer: &str, twin: Option<&str>) -> Result<Verdict
         return Ok(Verdict { expected: "ok".into(), class });
     }
     let path = matches!(given.call, Call::Lookup(..) | Call::MakeDirectories(..));
-    if path && given.call.text().unwrap().len() > paper::PATH {
+    if path && given.call.text().unwrap().len() > rules::PATH {
         return Ok(Verdict { expected: refused(9), class: Some(Class::Limits) });
     }
     let by = |answer: &str| match (given.call.edits(), given.call.resizes()) {

@@ -1,9 +1,9 @@
-//! The ledger of 01's demand 3, written down here a second time: it is fed the first image and then
-//! each accepted call alone. After the list the image has to be what it says, and so has a record that
-//! went through the list.
+//! The ledger, written down here a second time: it is fed the first image and then each accepted
+//! call alone. After the list the image has to be what it says, and so has a record that went
+//! through the list.
 
 use crate::calls::Call;
-use crate::paper::{self, Record, Tree};
+use crate::rules::{self, Record, Tree};
 
 struct Entry {
     directory: bool,
@@ -84,7 +84,7 @@ impl Ledger {
             }
             Call::MakeDirectories(start, path) => {
                 let mut steps = vec![*start as usize];
-                for part in paper::components(path) {
+                for part in rules::components(path) {
                     match part {
                         b"" | b"." => (),
                         b".." => {
@@ -111,8 +111,7 @@ impl Ledger {
         }
     }
 
-    /// 02: "the ledger, given the clip too, marks the file named, with the clip as its starting
-    /// bytes and its length as size and m."
+    /// The clip is what the file starts with.
     fn fill(&mut self, number: u32, clip: Vec<u8>) {
         let file = &mut self.entries[number as usize].file;
         (file.size, file.m) = (clip.len() as u64, clip.len());
@@ -145,8 +144,8 @@ impl Ledger {
         None
     }
 
-    /// 02: a record made at opening and passed through every later edit "always holds the used bytes and
-    /// largest region worked out afresh, and the number of edits accepted since".
+    /// What is wrong with a record that was made at opening and went through every edit of the
+    /// list.
     pub fn wrong_record(&self, tree: &Tree, record: Option<Record>) -> Option<&'static str> {
         let afresh = Record { edits: self.accepted.len() as u64, ..Record::of(tree) };
         record.is_some_and(|record| record != afresh).then_some("the record after a list of edits")

@@ -1,8 +1,8 @@
 //! Images to feed: masters that open, of many shapes, and damaged copies of them.
 
 use crate::names;
-use crate::paper::{self, GAMECUBE, WII, set_word, word};
 use crate::random::Random;
+use crate::rules::{self, GAMECUBE, WII, set_word, word};
 
 const NAMES: [&[u8]; 20] = [
     b"a",
@@ -41,7 +41,7 @@ struct Record {
 fn nesting(r: &mut Random, n: usize) -> Vec<Record> {
     let (directories, up) = (*r.pick(&[10, 35, 35, 60, 90]), *r.pick(&[5, 30, 60]));
     let equal_names = r.chance(30);
-    // Names of document 02; in a few of these images some that the codec does not turn back.
+    // Japanese names; in a few of these images some that the codec does not turn back.
     let (japanese, others) = (r.chance(40), r.chance(15));
     let mut records: Vec<Record> = vec![];
     let mut around: Vec<usize> = vec![];
@@ -120,7 +120,7 @@ fn texts(r: &mut Random, records: &mut [Record]) -> (Vec<u8>, Vec<usize>) {
     (texts, places)
 }
 
-/// A program of document 02: its offset, the file size that its header tells, and its length.
+/// A program: its offset, the file size that its header tells, and its length.
 #[derive(Clone, Copy)]
 struct Program {
     at: u64,
@@ -129,7 +129,7 @@ struct Program {
 
 impl Program {
     fn length(&self) -> u64 {
-        self.size.max(paper::DOL_HEADER)
+        self.size.max(rules::DOL_HEADER)
     }
 }
 
@@ -212,7 +212,7 @@ fn layout(
         marks.extend([end, end + gap, end + gap + size / 2]);
         end += gap + size;
     }
-    let aligned = end.next_multiple_of(paper::ALIGN);
+    let aligned = end.next_multiple_of(rules::ALIGN);
     marks.extend([end, end + 1, end + 0x100, aligned, aligned + 8]);
     for k in &files {
         let k = *k;
@@ -227,7 +227,7 @@ fn layout(
 /// Up to three files more, each ending at a multiple of the alignment that growth looks for, so
 /// that the places it finds are alike; empty files inside such places, and perhaps the program.
 fn spread(r: &mut Random, records: &mut [Record], program: Option<&mut Program>, end: u64) -> u64 {
-    let mut at = end.next_multiple_of(paper::ALIGN);
+    let mut at = end.next_multiple_of(rules::ALIGN);
     let size = r.within(1, 0x40) as u64;
     let mut left = r.within(1, 3);
     if let Some(program) = program
@@ -237,7 +237,7 @@ fn spread(r: &mut Random, records: &mut [Record], program: Option<&mut Program>,
         let before = at.checked_sub(length).filter(|start| *start >= end);
         let inside = at + r.within(1, 0x4000) as u64;
         program.at = *r.pick(&[before.unwrap_or(at), at, inside]);
-        at = (program.at + length).next_multiple_of(paper::ALIGN) + paper::ALIGN;
+        at = (program.at + length).next_multiple_of(rules::ALIGN) + rules::ALIGN;
     }
     for record in records.iter_mut().filter(|record| !record.directory && record.size == 0) {
         if left > 0 && r.chance(70) {
@@ -245,7 +245,7 @@ fn spread(r: &mut Random, records: &mut [Record], program: Option<&mut Program>,
             if at - size < end {
                 record.offset = at;
             }
-            at += paper::ALIGN;
+            at += rules::ALIGN;
             left -= 1;
         } else if r.chance(70) {
             record.offset = at - r.below(0x100) as u64;
@@ -341,8 +341,8 @@ pub fn master(r: &mut Random) -> Vec<u8> {
         6..=11 => end + r.within(2, 0x80) as u64,
         12..=16 => end + r.within(0x80, 0x400) as u64,
         _ => {
-            let far = *r.pick(&[0, 1, 0x10, 0x100, 0x101]) + r.below(2) as u64 * paper::ALIGN;
-            end.next_multiple_of(paper::ALIGN) + far
+            let far = *r.pick(&[0, 1, 0x10, 0x100, 0x101]) + r.below(2) as u64 * rules::ALIGN;
+            end.next_multiple_of(rules::ALIGN) + far
         }
     };
     let beyond = if r.chance(70) { 0 } else { *r.pick(&[1, 0x10, 0x100, 0x123]) };
@@ -559,8 +559,8 @@ fn damage_program(r: &mut Random, image: &mut [u8]) {
     let (fst_offset, fst_size) = (word(image, 0x424) as u64, word(image, 0x428) as u64);
     let disc_end = word(image, 0x434) as u64 + word(image, 0x438) as u64;
     let at = word(image, 0x420) as u64;
-    let size = paper::dol_size(image, at).unwrap_or(0);
-    let mut files = paper::files_of(image);
+    let size = rules::dol_size(image, at).unwrap_or(0);
+    let mut files = rules::files_of(image);
     files.push((0, fst_offset + fst_size));
     let (start, len) = *r.pick(&files);
     // What a program may come to: the start of something, or its end.
@@ -568,8 +568,8 @@ fn damage_program(r: &mut Random, image: &mut [u8]) {
         ([fst_offset, start, disc_end, image.len() as u64], [0x440, start + len, disc_end]);
     if at != 0 && r.chance(50) {
         let (start, end) = (*r.pick(&starts), image.len() as u64);
-        if let Some(dol) = image.get_mut(at as usize..(at + paper::DOL_HEADER).min(end) as usize)
-            && dol.len() as u64 == paper::DOL_HEADER
+        if let Some(dol) = image.get_mut(at as usize..(at + rules::DOL_HEADER).min(end) as usize)
+            && dol.len() as u64 == rules::DOL_HEADER
         {
             let i = r.below(18);
             let sum = match r.below(6) {
@@ -582,18 +582,18 @@ fn damage_program(r: &mut Random, image: &mut [u8]) {
         }
         return;
     }
-    let length = size.max(paper::DOL_HEADER);
+    let length = size.max(rules::DOL_HEADER);
     let to = match r.below(10) {
         0 => r.next() as u32 as u64,
         1 => r.below(image.len()) as u64,
-        2 => (image.len() as u64 + r.below(3) as u64).saturating_sub(paper::DOL_HEADER + 1),
+        2 => (image.len() as u64 + r.below(3) as u64).saturating_sub(rules::DOL_HEADER + 1),
         3..=6 => (*r.pick(&starts) + r.below(3) as u64).saturating_sub(length + 1),
         _ => (*r.pick(&ends) + r.below(3) as u64).saturating_sub(1),
     };
     set_word(image, 0x420, to.min(u32::MAX as u64) as u32);
     // Mostly the header goes with it, where it stays off the disc header and the table.
     let table = fst_offset..fst_offset + fst_size;
-    let end = to + paper::DOL_HEADER;
+    let end = to + rules::DOL_HEADER;
     let apart = to >= 0x440 && (end <= table.start || to >= table.end);
     if apart && end <= image.len() as u64 && r.chance(85) {
         dol_header(r, &mut image[to as usize..], size.min(0x1000));

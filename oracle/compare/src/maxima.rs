@@ -3,9 +3,9 @@
 use crate::calls::{Call, any_number};
 use crate::judge::New;
 use crate::masters::{chain, crowd};
-use crate::paper::{self, MAXIMUM, Record, Tree, set_word, word};
 use crate::random::Random;
 use crate::records::{edits, images};
+use crate::rules::{self, MAXIMUM, Record, Tree, set_word, word};
 use crate::run::Run;
 use crate::suites::clip;
 
@@ -13,7 +13,7 @@ use crate::suites::clip;
 /// written anew, or a little above it, so that some entries more go in.
 pub fn any(r: &mut Random, image: &[u8]) -> u32 {
     let size = word(image, 0x428);
-    let written = match paper::open(image, usize::MAX) {
+    let written = match rules::open(image, usize::MAX) {
         Ok(tree) => tree.written() as u32,
         Err(_) => size,
     };
@@ -65,7 +65,7 @@ fn stating(image: &[u8], maximum: u32) -> Vec<u8> {
 /// which 25 is due.
 fn every_maximum(run: &mut Run) {
     for image in images() {
-        let tree = paper::open(&image, usize::MAX).unwrap();
+        let tree = rules::open(&image, usize::MAX).unwrap();
         let edits = edits(&tree);
         let sizes = edits.iter().filter_map(|call| size(&tree, call));
         let most = sizes.max().unwrap().max(tree.fst_size) as u32;
@@ -89,7 +89,7 @@ fn every_maximum(run: &mut Run) {
     }
 }
 
-/// Tables at the limits of 01, which come before a maximum.
+/// Tables at the limits, which come before a maximum.
 fn at_the_limits(run: &mut Run) {
     // With the count of entries, the length of each name, and a file.
     let crowds = [

@@ -1,9 +1,9 @@
-//! Names of document 02: real ones, units at the boundaries of its ranges, and on small images every
-//! name of two bytes, every short text over the bytes that count, and names that share a text.
+//! Names: real ones, units at the boundaries of the ranges, and on small images every name of two
+//! bytes, every short text over the bytes that count, and names that share a text.
 
 use crate::calls::Call;
-use crate::paper;
 use crate::random::Random;
+use crate::rules;
 use crate::run::Run;
 use crate::suites::{all_texts, other_master};
 
@@ -46,7 +46,7 @@ const OTHERS: [&[u8]; 10] = [
     b"\xfa\x4a",
 ];
 
-/// What 02's ranges begin and end with, the bytes beside them, and those that stand for themselves.
+/// What the ranges of bytes begin and end with, the bytes beside them, and those that stand for themselves.
 pub const BOUNDS: [u8; 22] = [
     0x1f, 0x20, 0x2e, 0x2f, 0x3a, 0x3f, 0x40, 0x5c, 0x61, 0x7e, 0x7f, 0x80, 0x81, 0x9f, 0xa0, 0xa1,
     0xdf, 0xe0, 0xfc, 0xfd, 0xfe, 0xff,
@@ -64,7 +64,7 @@ pub const ENDS: [&[u8]; 6] = [
 
 /// Whether opening takes it as a name.
 pub fn fine(name: &[u8]) -> bool {
-    paper::units(name).all(paper::fit) && !paper::unsafe_name(name)
+    rules::units(name).all(rules::fit) && !rules::unsafe_name(name)
 }
 
 fn unit(r: &mut Random, others: bool) -> Vec<u8> {
@@ -191,7 +191,7 @@ fn shared(run: &mut Run) {
         for places in starts(text.len() - 1) {
             let image = image(&text, places);
             variants.push(vec![(0x440, image[0x440..0x46a].to_vec())]);
-            if text.len() < 5 && paper::open(&image, usize::MAX).is_ok() {
+            if text.len() < 5 && rules::open(&image, usize::MAX).is_ok() {
                 opened.push(image);
             }
         }
@@ -201,7 +201,7 @@ fn shared(run: &mut Run) {
         if run.over() {
             return;
         }
-        let tree = paper::open(&image, usize::MAX).unwrap();
+        let tree = rules::open(&image, usize::MAX).unwrap();
         if run.is_mixed(&image) {
             continue;
         }

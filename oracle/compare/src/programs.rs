@@ -1,8 +1,8 @@
-//! The program of document 02 on small images: at every offset, with every sum that decides, and the
-//! calls on images that have it at each place where it may lie.
+//! Programs on small images: at every offset, with every sum that decides, and the calls on images
+//! that have one at each place where it may lie.
 
 use crate::calls::Call;
-use crate::paper::{self, DOL_HEADER, GAMECUBE, Tree, set_word};
+use crate::rules::{self, DOL_HEADER, GAMECUBE, Tree, set_word};
 use crate::run::Run;
 use crate::suites::clip;
 
@@ -227,7 +227,7 @@ fn near_marks(tree: &Tree, inserts: bool) -> Vec<Call> {
 
 /// The calls on an image: with memory enough, and a few of them with just enough and too little.
 fn on(run: &mut Run, image: Vec<u8>, calls: impl Fn(&Tree) -> Vec<Call>) {
-    let Ok(tree) = paper::open(&image, usize::MAX) else { return };
+    let Ok(tree) = rules::open(&image, usize::MAX) else { return };
     let mut with: Vec<_> = calls(&tree).into_iter().map(|call| (call, 64, 0x100)).collect();
     let least = 4 * (tree.entries.len() + 2);
     let table = 12 * tree.entries.len() + tree.texts();
@@ -319,14 +319,14 @@ fn growth_beside(run: &mut Run) {
                         .free
                         .iter()
                         .map(|(at, size)| {
-                            (at + size).saturating_sub(at.next_multiple_of(paper::ALIGN))
+                            (at + size).saturating_sub(at.next_multiple_of(rules::ALIGN))
                         })
                         .collect();
                     let mut calls = vec![Call::Listing, Call::Free];
                     for size in around(&rests, 1).into_iter().chain([0x101, 0x7f00, 0x8001]) {
                         calls.push(Call::Resize(1, size));
                         calls.push(Call::Resize(2, size));
-                        calls.push(Call::Alloc(size, paper::ALIGN as u32));
+                        calls.push(Call::Alloc(size, rules::ALIGN as u32));
                         for number in [1, 2] {
                             calls.push(match size {
                                 0..=0x200 => Call::Fill(number, clip(size as usize)),

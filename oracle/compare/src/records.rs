@@ -2,8 +2,8 @@
 
 use crate::calls::{Call, any_number};
 use crate::judge::used_after;
-use crate::paper::{self, Record, Tree, set_word};
 use crate::random::Random;
+use crate::rules::{self, Record, Tree, set_word};
 use crate::run::Run;
 use crate::suites::{clip, nested_master, other_master, small_master};
 
@@ -91,7 +91,7 @@ pub fn edits(tree: &Tree) -> Vec<Call> {
         let places = [0, offset, offset + size, end - 1, end, end + 1, 0x1000, 0x1_0000];
         calls.extend(places.map(|place| Call::Move(number, place as u32)));
         let most = tree.most(offset, size);
-        let place = tree.place(0, paper::ALIGN).map_or(most, |(_, rest)| rest);
+        let place = tree.place(0, rules::ALIGN).map_or(most, |(_, rest)| rest);
         for size in [0, 1, size.saturating_sub(1), size, size + 1, most, most + 1, place, place + 1]
         {
             calls.push(Call::Resize(number, size as u32));
@@ -109,7 +109,7 @@ pub fn edits(tree: &Tree) -> Vec<Call> {
 /// it wants, a byte less and none.
 pub fn records(run: &mut Run) {
     for image in images() {
-        let tree = paper::open(&image, usize::MAX).unwrap();
+        let tree = rules::open(&image, usize::MAX).unwrap();
         let (least, table) = (4 * (tree.entries.len() + 2), 12 * tree.entries.len() + tree.texts());
         let mut calls = vec![(Call::MakeRecord, 64, 0, None)];
         for call in edits(&tree) {

@@ -12,9 +12,9 @@ use crate::judge::{
 use crate::ledger::Ledger;
 use crate::masters;
 use crate::maxima;
-use crate::paper::{self, MAXIMUM, Record, Refusal, Tree, set_word};
 use crate::random::Random;
 use crate::records;
+use crate::rules::{self, MAXIMUM, Record, Refusal, Tree, set_word};
 use std::collections::BTreeMap;
 use std::fs;
 use std::path::{Path, PathBuf};
@@ -70,7 +70,7 @@ struct Case {
     /// For records and maxima, so that all else stays the same.
     aside: Random,
     image: Vec<u8>,
-    /// 01's opening, however many words are lent.
+    /// What opening says by the rules, however many words are lent.
     opened: Result<Tree, Refusal>,
     odd: Option<Class>,
     name: String,
@@ -93,7 +93,7 @@ struct Case {
 
 impl Case {
     fn new(r: Random, image: Vec<u8>, name: String, codec: &Rc<Codec>) -> Self {
-        let opened = paper::open(&image, usize::MAX);
+        let opened = rules::open(&image, usize::MAX);
         let odd = odd_name(&image);
         let program = opened.as_ref().ok().and_then(|tree| tree.program);
         let program = program.map(|(at, size)| (at as usize, size as usize));
@@ -132,7 +132,7 @@ impl Case {
     }
 
     /// The call as the original has to be asked in place of it, where it has a name or path, or the
-    /// image has names, that do not come back or that 02 has not.
+    /// image has names, that do not come back or that the rules have not.
     fn twin(&mut self, call: &Call) -> Option<String> {
         let Some(text) = call.text() else {
             return self.others.as_ref().map(|_| call.line_of_original());
@@ -186,7 +186,7 @@ impl Case {
 
     fn state(&mut self, maximum: u32) {
         set_word(&mut self.image, MAXIMUM, maximum);
-        self.opened = paper::open(&self.image, usize::MAX);
+        self.opened = rules::open(&self.image, usize::MAX);
     }
 
     /// States another maximum, for which 26 is just due for this edit or just not, on both sides.
@@ -208,14 +208,14 @@ impl Case {
     fn edited(&self, head: &str) -> (Vec<u8>, Result<Tree, Refusal>) {
         let (mut image, head) = (self.image.clone(), unhex(head.strip_prefix("ok ").unwrap()));
         image[..head.len()].copy_from_slice(&head);
-        let opened = paper::open(&image, usize::MAX);
+        let opened = rules::open(&image, usize::MAX);
         (image, opened)
     }
 
     fn opened_with(&self, words: usize) -> Result<Tree, Refusal> {
         match &self.opened {
             Ok(tree) if words >= 4 * (tree.entries.len() + 2) => self.opened.clone(),
-            _ => paper::open(&self.image, words),
+            _ => rules::open(&self.image, words),
         }
     }
 
@@ -230,7 +230,7 @@ impl Case {
         let r = &mut self.r;
         let Ok(tree) = &self.opened else {
             let count = match self.image.get(0x440..0x44c) {
-                Some(root) => paper::word(root, 8).min(200) as usize,
+                Some(root) => rules::word(root, 8).min(200) as usize,
                 None => 1,
             };
             let least = 4 * (count.max(1) + 2);
@@ -711,7 +711,7 @@ impl Run {
         println!("\nFAULT: {what}");
         println!("  the original: {}", cut(theirs));
         println!("  Counter:      {}", cut(ours));
-        println!("  01:           {}", cut(expected));
+        println!("  rules:        {}", cut(expected));
         println!("  replay, on either side:");
         for line in lines {
             println!("    {line}");
@@ -779,7 +779,7 @@ impl Run {
     /// The same with records that the edits take.
     pub fn each_with(&mut self, image: Vec<u8>, calls: &[(Call, usize, usize, Option<Record>)]) {
         self.counts.images += 1;
-        self.counts.refused_images += u64::from(paper::open(&image, usize::MAX).is_err());
+        self.counts.refused_images += u64::from(rules::open(&image, usize::MAX).is_err());
         for part in calls.chunks(512) {
             let mut case = Case::new(Random::new(0), image.clone(), "each".into(), &self.codec);
             assert!(case.mixed.is_none(), "an image that the original can only be asked to open");
@@ -870,7 +870,7 @@ impl Run {
     }
 }
 
-/// Whether the original accepts, asked as 01 would have it, and Counter too.
+/// Whether the original accepts, asked as the rules would have it, and Counter too.
 fn both_accept(asked: &Asked, probe: &[String], oracle: &[String]) -> bool {
     let theirs = &oracle[asked.twin.unwrap_or(asked.oracle)];
     probe[asked.probe].starts_with("ok") && theirs.starts_with("ok")
@@ -937,7 +937,7 @@ fn trouble(
     }
     // What the sums say of the new image, and what it says itself.
     if let (Ok(tree), Some(moved), Some(record)) = (&opened, moved, record)
-        && record.moved(tree.used(), after.used(), paper::largest(&after.free)) != Some(moved)
+        && record.moved(tree.used(), after.used(), rules::largest(&after.free)) != Some(moved)
     {
         return wrong("the record and the image afterwards");
     }
@@ -960,7 +960,7 @@ fn trouble(
         {
             return wrong("the totals or the free regions afterwards");
         }
-        // "The sum that must equal the disc end", from Counter's own numbers.
+        // Used and free bytes fill the disc, by Counter's own numbers.
         let numbers = |at| numbers_of(answer(at));
         let free: u64 = numbers(told.free).iter().skip(1).step_by(2).sum();
         if numbers(told.used)[0] + free != numbers(told.total)[0] {
@@ -1004,7 +1004,7 @@ fn other(name: &str) -> String {
     format!("{stem}{}", if turn == "a" { "b" } else { "a" })
 }
 
-/// An edit of an image that 01 refuses; it has no tree to be made up from.
+/// An edit of an image that the rules refuse; it has no tree to be made up from.
 fn edit_of_refused(r: &mut Random, inserts: bool) -> Call {
     match r.below(if inserts { 8 } else { 5 }) {
         0 => Call::Move(r.below(4) as u32, r.below(0x1000) as u32),
@@ -1040,7 +1040,7 @@ fn ask_look_with(
     if let Some(others) = &case.others {
         lines.oracle(others.real());
     }
-    // An edit of an image that 01 refuses is held to opening.
+    // An edit of an image that the rules refuse is held to opening.
     let oracle = if call.edits() { "open".into() } else { call.line_of_original() };
     let oracle = lines.oracle(oracle);
     case.stand_in(lines);
@@ -1083,7 +1083,7 @@ fn ask_edit_with(
     take: Option<Take>,
 ) -> Asked {
     let twin = case.twin(&call);
-    let fit = |text: &[u8]| paper::units(text).all(paper::fit);
+    let fit = |text: &[u8]| rules::units(text).all(rules::fit);
     let whole = case.others.is_some() || twin.is_some() && call.text().is_some_and(fit);
     let (from, to) = (&case.name, other(&case.name));
     lines.probe(format!("load {from}"));

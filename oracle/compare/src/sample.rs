@@ -1,6 +1,6 @@
 //! A fixed sample of the original's answers, as a script of host/replay: images of many shapes,
-//! calls that look at them and lists of edits. Each expected answer is the original's, or, where the
-//! two differ by an entry of docs/DIFFERENCES.md, 01's or 02's.
+//! calls that look at them and lists of edits. Each expected answer is the original's, or, where
+//! the two differ by an entry of docs/DIFFERENCES.md, that of the rules.
 
 use crate::calls::{self, Call, hex, unhex};
 use crate::child::Side;
@@ -8,8 +8,8 @@ use crate::codec::{Codec, StandIns};
 use crate::judge::{Given, New, judge, told_where};
 use crate::masters;
 use crate::maxima;
-use crate::paper::{self, MAXIMUM, Refusal, Tree, set_word, word};
 use crate::random::Random;
+use crate::rules::{self, MAXIMUM, Refusal, Tree, set_word, word};
 use std::collections::BTreeMap;
 
 const WORDS: usize = 16_384;
@@ -119,7 +119,7 @@ impl Sample {
 
     /// Whether all names of an image that opens come back: others are not the original's to judge.
     fn comes_back(&self, image: &[u8]) -> bool {
-        let opened = paper::open(image, usize::MAX);
+        let opened = rules::open(image, usize::MAX);
         opened.map_or(true, |tree| {
             tree.entries.iter().all(|entry| self.codec.class(&entry.name).is_none())
         })
@@ -181,7 +181,7 @@ impl Sample {
         self.ask("size 0".into());
         self.ask(format!("size {}", image.len()));
         self.ask(format!("patch 0 {}", hex(&image)));
-        self.opened = paper::open(&image, WORDS);
+        self.opened = rules::open(&image, WORDS);
         self.image = image;
     }
 
@@ -212,7 +212,7 @@ impl Sample {
         }
     }
 
-    /// The answer that 01 expects: the original's in Counter's form.
+    /// The answer that the rules want: the original's in Counter's form.
     fn expected(&mut self, call: &Call) -> Option<String> {
         self.oracle.ask(&["save before".into()]);
         let answer = self.ask(call.line());
@@ -222,7 +222,7 @@ impl Sample {
             && self.codec.class(text).is_some()
         {
             // With a pair that does not come back the image would be another one.
-            if paper::units(text).all(paper::fit) {
+            if rules::units(text).all(rules::fit) {
                 return None;
             }
             let text = StandIns::default().twin(&self.codec, text);
@@ -238,7 +238,7 @@ impl Sample {
         });
         let opened = match &self.opened {
             Ok(tree) if self.lent.0 >= 4 * (tree.entries.len() + 2) => self.opened.clone(),
-            _ => paper::open(&self.image, self.lent.0),
+            _ => rules::open(&self.image, self.lent.0),
         };
         let (words, bytes, _) = self.lent;
         let (image, codec, others) = (&self.image[..], &self.codec, None);
@@ -367,8 +367,8 @@ impl Sample {
         [told[0], kind, told[1], told[2]].into_iter().map(u64::from).collect()
     }
 
-    /// FST offset and size, disc end, entries, used total: the original's and, as 02 has it, the
-    /// program where it lies behind the table.
+    /// FST offset and size, disc end, entries, used total: the original's, and the program where it
+    /// lies behind the table.
     fn opened_words(&mut self) -> [u64; 5] {
         let total = numbers(&self.ask("total".into()))[0];
         let behind = self.opened.as_ref().ok().and_then(|tree| tree.behind());
@@ -412,7 +412,7 @@ impl Sample {
     /// From here on the image states this maximum.
     fn state(&mut self, maximum: u32) {
         set_word(&mut self.image, MAXIMUM, maximum);
-        self.opened = paper::open(&self.image, WORDS);
+        self.opened = rules::open(&self.image, WORDS);
         let bytes = hex(&maximum.to_be_bytes());
         self.line(&format!("patch {MAXIMUM:#x} :{bytes}"));
         self.ask(format!("patch {MAXIMUM} {bytes}"));
@@ -466,7 +466,7 @@ impl Sample {
         if expected.starts_with("ok") {
             let peek = self.ask(format!("peek 0 {}", self.image.len()));
             self.image = unhex(peek.strip_prefix("ok ").unwrap());
-            self.opened = paper::open(&self.image, WORDS);
+            self.opened = rules::open(&self.image, WORDS);
             answer.extend(numbers(&expected).first().map(|number| u64::from(*number)));
         } else {
             self.oracle.ask(&["load before".into()]);

@@ -3,14 +3,14 @@
 
 use crate::calls::Call;
 use crate::masters::{chain, crowd, deep_crowd};
-use crate::paper::{GAMECUBE, MAXIMUM, set_word};
+use crate::rules::{GAMECUBE, MAXIMUM, set_word};
 use crate::run::Run;
 
 /// Memory that is enough for any image.
 const WORDS: usize = 65_544;
 const BYTES: usize = 2_097_152;
 
-/// Document 01's small master, with bytes in place of zeros behind the table.
+/// The small master, with bytes in place of zeros behind the table.
 pub fn small_master() -> Vec<u8> {
     let mut image = vec![0; 0x2000];
     for (i, byte) in image.iter_mut().enumerate().skip(0x45a) {
@@ -300,7 +300,7 @@ fn open_tables(run: &mut Run, base: &[u8], tables: Vec<Vec<u8>>) {
     run.variants(base, &variants, &[Call::List, Call::Free]);
 }
 
-/// Calls at the limits of 01: entries, texts, depth, memory.
+/// Calls at the limits: entries, texts, depth, memory.
 pub fn limits(run: &mut Run) {
     let up = Call::Lookup(0, b"..".to_vec());
     let looks = [Call::Open, Call::Free, Call::Used, Call::Total, Call::MakeRecord, up];
@@ -465,7 +465,7 @@ pub fn trees(run: &mut Run) {
         for (gap, maximum) in rooms.into_iter().chain([(0, written - 1), (0x80, written + 14)]) {
             let mut image = small_image(&tree, gap);
             set_word(&mut image, MAXIMUM, maximum);
-            if crate::paper::open(&image, usize::MAX).is_err() {
+            if crate::rules::open(&image, usize::MAX).is_err() {
                 break;
             }
             let table_end = 0x440 + 12 * count + 4;

@@ -8,8 +8,7 @@ use Rattle.executable.specs.declared.dol.DolHeader.{DolHeader}
 use Rattle.space.specs.declared.totals.Totals.{Totals}
 use Rattle.space.specs.Totals.{totals_in}
 use Rattle.window.specs.declared.Window.{Window}
-use Rattle.opened.specs.Opening.{zeros}
-use Rattle.counter.specs.Replies.{Reply, reply, Read, replied, disc_words, disc_totals_words, region_words, one, window_in, window_words, totals_words, dol_words, program_reply, found_reply, dol_reply, dol_window_reply, done, numbered}
+use Rattle.counter.specs.Replies.{reply, replied, disc_words, disc_totals_words, region_words, one, window_in, window_words, totals_words, dol_words, program_reply, found_reply, dol_reply, dol_window_reply, done, numbered}
 
 -- slots as they were before the call
 abbrev old : List ℕ
@@ -106,7 +105,3 @@ refused-slots = (refl, refl, refl, refl, refl, refl, refl, refl, refl, refl, ref
 -- "Every function returns 0 where it is accepted, and else the number of the first test that failed"
 done-number : (done (Ok tt) 1 ≡ 0) × (done (Err NotEnoughSpace) 1 ≡ 21)
 done-number = (refl, refl)
-
--- LAW: a call that reads gives back what is wanted, and zero working words
-pub read-says : (wanted given : Reply) (before after : List ℕ) → Read wanted given before after → (given ≡ wanted) × (after ≡ zeros before)
-read-says wanted given before after r = (r.answered, r.words)

@@ -1,4 +1,4 @@
--- The order in which a lookup refuses on an image that opens (document 01: "path over 1,024 bytes .. 9, then 15, 16 or 17"). Assumes nothing.
+-- The order in which a lookup refuses on an image that opens: a long path, the number, and then along the path. Assumes nothing.
 use Rattle.std.specs.Prelude.{Ok}
 use Rattle.std.specs.Prelude.{ℕ, ◌<◌, ◌≤◌, ◌≡◌, List, length}
 use borrow.Author.Tests.{lt-ltb, le-ltb}

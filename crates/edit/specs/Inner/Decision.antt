@@ -7,12 +7,14 @@ use Rattle.endian.specs.Bytes.{put, span}
 use Rattle.header.specs.Verdicts.{fst_offset, fst_size}
 use Rattle.tree.specs.Table.{Node, encode}
 use Rattle.space.specs.declared.region.DiscRegion.{DiscRegion}
+use Rattle.space.specs.Used.{no_region}
 use Rattle.edit.specs.declared.decision.Writing.{Writing}
 use Rattle.edit.specs.declared.decision.Decision.{Decision}
 use Rattle.edit.specs.declared.decision.Decision.TheVariants as decision
-use Rattle.edits.specs.Change.{Change, with_table, Plan, refused, nothing, change, filled}
-use Rattle.edits.specs.Edits.{no_place, plan_verdict, plan_image}
-use Rattle.opened.specs.Inner.Disc.{Disc, Means}
+use Rattle.edits.specs.Change.{Change, with_table, table_verdict, Plan, refused, nothing, change, filled}
+use Rattle.edits.specs.Edits.{plan_verdict, plan_image}
+use Rattle.opened.specs.Opening.{Disc}
+use Rattle.opened.specs.Inner.Disc.{Opened, Means}
 
 -- ---- the numbers of a change
 
@@ -21,11 +23,11 @@ change_with nodes w = record { nodes = nodes; old = w.old; place = w.place; kept
 
 -- no byte but the table's
 abbrev pub nothing_besides : Writing
-nothing_besides = record { old = no_place; place = no_place; kept = 0; lost = record { offset = 0; size = 0 } }
+nothing_besides = record { old = no_region; place = no_region; kept = 0; lost = record { offset = 0; size = 0 } }
 
 -- a change with a place, for the tests of its table
 abbrev pub placing : List Node → DiscRegion → Change
-placing nodes place = record { nodes = nodes; old = no_place; place = place; kept = 0; lost = no_place }
+placing nodes place = record { nodes = nodes; old = no_region; place = place; kept = 0; lost = no_region }
 
 -- the image with the change written, where the table's bytes are these
 unfoldable pub written_with : Writing → List ℕ → List ℕ → List ℕ
@@ -37,6 +39,10 @@ written_with w table image =
 abbrev pub behind_tests : {A : Type 0} → Verdict → A → Result A Refusal
 behind_tests (Ok _) x = Ok x
 behind_tests (Err c) x = Err c
+
+-- the size of the table of the tree as it is, once it passed a new table's tests with that place
+abbrev pub judged_size : Opened → ℕ → DiscRegion → Result ℕ Refusal
+judged_size d bytes place = behind_tests (table_verdict (placing d.disc.nodes place) d.disc d.words bytes) (length (encode d.disc.nodes))
 
 -- ---- what is written lies in the image; nothing is asked of a place where no byte is written
 
@@ -148,15 +154,15 @@ pub record DecidedAs (v : Verdict) (p : Plan) (image : List ℕ) (room : ℕ) (b
   pub answer : carried_verdict d ≡ v
   pub after : carried_image d bytes clip image ≡ (if is_refused v then image else plan_image p image)
 
--- by all tests but 25, with no clip
-abbrev pub Decided : Plan → List ℕ → ℕ → ℕ → List ℕ → Result Decision Refusal → Type 0
-Decided p image words room bytes d = DecidedAs (plan_verdict p image words room) p image room bytes [] d
+-- by all tests but 25 on a disc, with no clip
+abbrev pub Decided : Plan → List ℕ → Disc → ℕ → ℕ → List ℕ → Result Decision Refusal → Type 0
+Decided p image x words room bytes d = DecidedAs (plan_verdict p x words room) p image room bytes [] d
 
--- ---- a decision on a disc: it is what the plan comes to, on each image that means the disc
+-- ---- a decision on an open disc: the disc alone says what it is, and it is what the plan comes to on each image that means the disc
 
-abbrev pub Decides : Plan → Disc → ℕ → List ℕ → Result Decision Refusal → Type 0
-Decides p d room bytes r = (image : List ℕ) → Means image d → Decided p image d.words room bytes r
+abbrev pub Decides : Plan → Opened → ℕ → List ℕ → Result Decision Refusal → Type 0
+Decides p d room bytes r = (image : List ℕ) → Means image d → Decided p image d.disc d.words room bytes r
 
 -- with a clip
-abbrev pub DecidesWith : List ℕ → Plan → Disc → ℕ → List ℕ → Result Decision Refusal → Type 0
-DecidesWith clip p d room bytes r = (image : List ℕ) → Means image d → DecidedAs (plan_verdict p image d.words room) p image room bytes clip r
+abbrev pub DecidesWith : List ℕ → Plan → Opened → ℕ → List ℕ → Result Decision Refusal → Type 0
+DecidesWith clip p d room bytes r = (image : List ℕ) → Means image d → DecidedAs (plan_verdict p d.disc d.words room) p image room bytes clip r

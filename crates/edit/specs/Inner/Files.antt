@@ -8,7 +8,7 @@ use Rattle.tree.specs.declared.Entry.{Entry}
 use Rattle.tree.specs.declared.Entry.TheVariants as entry
 use Rattle.space.specs.declared.region.DiscRegion.{DiscRegion}
 use Rattle.opened.specs.Opening.{region_of}
-use Rattle.opened.specs.Inner.Disc.{Disc, Means}
+use Rattle.opened.specs.Inner.Disc.{Opened, Means}
 use Rattle.edit.specs.declared.decision.Writing.{Writing}
 use Rattle.edit.specs.declared.file.File.{File}
 
@@ -25,11 +25,11 @@ file_of k (entry.File f) = Ok (record { number = k; place = record { offset = f.
 file_of k (entry.Directory d) = Err ExpectedFile
 
 -- a file of a disc that some image means
-pub record IsFileOf (d : Disc) (f : File) : Type 0 where
+pub record IsFileOf (d : Opened) (f : File) : Type 0 where
   pub image : List ℕ
   pub means : Means image d
-  pub is : IsFile d.nodes f.number
-  pub place : region_of (slice_index_or d.nodes f.number none) ≡ f.place
+  pub is : IsFile d.disc.nodes f.number
+  pub place : region_of (slice_index_or d.disc.nodes f.number none) ≡ f.place
 
 -- what a move writes besides the table: the smaller of both sizes is copied, and the old place is zeroed
 abbrev pub relocation_of : DiscRegion → DiscRegion → Writing

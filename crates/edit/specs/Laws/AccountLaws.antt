@@ -8,7 +8,7 @@ use Rattle.refusal.specs.declared.Refusal.{Refusal}
 use Rattle.header.specs.Verdicts.{fst_offset, fst_size, disc_end, table_end}
 use Rattle.tree.specs.Table.{encode}
 use Rattle.space.specs.declared.region.DiscRegion.{DiscRegion}
-use Rattle.space.specs.Used.{used_regions, total_size}
+use Rattle.space.specs.Used.{used_regions, total_size, no_region}
 use Rattle.space.specs.Free.{largest_size}
 use Rattle.space.specs.Inner.Sort.{regions_in}
 use Rattle.space.specs.Laws.TotalLaws.{total-used}
@@ -18,12 +18,11 @@ use Rattle.space.specs.Inner.Scan.{longest_from, gone_of}
 use Rattle.space.specs.Laws.LargestLaws.{largest-after}
 use Rattle.space.specs.Laws.TotalsLaws.{same-verdict, same-moved}
 use Rattle.executable.specs.Program.{program_behind}
-use Rattle.opened.specs.Opening.{nodes_in, behind_table, used_in, used_of, free_space_of}
+use Rattle.opened.specs.Opening.{nodes_in, behind_table, used_in, used_of, free_space_of, Disc, disc_of}
 use Rattle.opened.proofs.Laws.OpeningLaws.{used-regions}
-use Rattle.opened.specs.Inner.Prepared.{IsOpen}
-use Rattle.opened.specs.Inner.Disc.{Disc, Means, disc_of}
-use Rattle.edits.specs.Change.{Change, table_verdict_in, Plan, refused, nothing, change, filled}
-use Rattle.edits.specs.Edits.{no_place, plan_verdict, totals_to}
+use Rattle.opened.specs.Inner.Prepared.{OpenImage, IsOpen}
+use Rattle.edits.specs.Change.{Change, table_verdict, Plan, refused, nothing, change, filled}
+use Rattle.edits.specs.Edits.{plan_verdict, totals_to}
 use Rattle.ledger.proofs.Laws.Files.{places_in, used-files}
 use Rattle.ledger.proofs.Laws.Opened.{opened}
 use Rattle.ledger.proofs.Laws.Room as room-law
@@ -52,7 +51,6 @@ module _ (image w : List ℕ) (m : ℕ) (o : IsOpen image w m) (image' : List �
 
   -- LAW: the used regions in the words tell the largest free region of the new image
   largest-moves : longest_from (disc_end image) (gone_of old) new (fst_offset image + size) 0 (regions_in w 1 (m - 1)) ≡ largest_size (free_space_of image')
-  unfolding free_space_of
   largest-moves =
       let q = opened image (length w) o.known.passed o.known.bytes in
       let u = used-places image in
@@ -82,9 +80,9 @@ table-size bytes table room size long held e = ap length (sym e) ∙ length-span
 module _ (image w : List ℕ) (m room : ℕ) (bytes : List ℕ) (long : length bytes ≡ room) (t : Totals) (o : IsOpen image w m) (image' : List ℕ) where
   -- the plan's tests, and then 25
   abbrev pub tested : Plan → Verdict
-  tested p = first (plan_verdict p image (length w) room) (totals_verdict t (used_of image) (used_of image'))
+  tested p = first (plan_verdict p (disc_of image) (length w) room) (totals_verdict t (used_of image) (used_of image'))
 
-  refused-entered : (p : Plan) (c : Refusal) → Err c ≡ plan_verdict p image (length w) room → IsEntered (tested p) (Err c) t (totals_to t image image') (accounted (Err c) t)
+  refused-entered : (p : Plan) (c : Refusal) → Err c ≡ plan_verdict p (disc_of image) (length w) room → IsEntered (tested p) (Err c) t (totals_to t image image') (accounted (Err c) t)
   refused-entered p c h =
       let e : tested p ≡ Err c = rw (← h) in
       record {
@@ -92,7 +90,7 @@ module _ (image w : List ℕ) (m room : ℕ) (bytes : List ℕ) (long : length b
         refused = λ x q. let y : Err c ≡ Err x = sym e ∙ q in cc;
       }
 
-  moved-entered : (p : Plan) (d : Decision) (a : Accounted) → Ok tt ≡ plan_verdict p image (length w) room → a ≡ settled_as d (moved_by t (used_of image) (used_of image') (largest_size (free_space_of image'))) →
+  moved-entered : (p : Plan) (d : Decision) (a : Accounted) → Ok tt ≡ plan_verdict p (disc_of image) (length w) room → a ≡ settled_as d (moved_by t (used_of image) (used_of image') (largest_size (free_space_of image'))) →
       IsEntered (tested p) (Ok d) t (totals_to t image image') a
   moved-entered p d a h e = record { passed = λ q. e ∙ go q; refused = λ c q. e ∙ stop c q }
     where
@@ -106,19 +104,19 @@ module _ (image w : List ℕ) (m room : ℕ) (bytes : List ℕ) (long : length b
       stop c q = rw (sym 25-is ∙ q)
 
   -- nothing is written but a clip
-  none-entered : (p : Plan) (d : Decision) → Ok tt ≡ plan_verdict p image (length w) room → Lays nothing image image' →
-      IsEntered (tested p) (Ok d) t (totals_to t image image') (settled_as d (entered_as image (regions_in w 1 (m - 1)) t (fst_size image) no_place no_place))
-  none-entered p d h l = moved-entered p d _ h (ap (settled_as d) (moves image w m o image' (fst_size image) no_place no_place l.0 t))
+  none-entered : (p : Plan) (d : Decision) → Ok tt ≡ plan_verdict p (disc_of image) (length w) room → Lays nothing image image' →
+      IsEntered (tested p) (Ok d) t (totals_to t image image') (settled_as d (entered_as image (regions_in w 1 (m - 1)) t (fst_size image) no_region no_region))
+  none-entered p d h l = moved-entered p d _ h (ap (settled_as d) (moves image w m o image' (fst_size image) no_region no_region l.0 t))
 
   -- a table is
-  write-entered : (p : Plan) (k : ℕ) (c : Change) (n size : ℕ) (x : Writing) → Ok tt ≡ plan_verdict p image (length w) room → Lays (change k c) image image' → length (encode c.nodes) ≡ size → c.old ≡ x.old → c.place ≡ x.place →
+  write-entered : (p : Plan) (k : ℕ) (c : Change) (n size : ℕ) (x : Writing) → Ok tt ≡ plan_verdict p (disc_of image) (length w) room → Lays (change k c) image image' → length (encode c.nodes) ≡ size → c.old ≡ x.old → c.place ≡ x.place →
       IsEntered (tested p) (Ok (decision.Write n size x)) t (totals_to t image image') (account_of image (regions_in w 1 (m - 1)) (Ok (decision.Write n size x)) t)
   write-entered p k c n size x h l l₀ eo ep =
       let s : LaidOut image image' size x.old x.place = rw (l₀, eo, ep) at l in
       moved-entered p (decision.Write n size x) _ h (ap (settled_as (decision.Write n size x)) (moves image w m o image' size x.old x.place s t))
 
   -- LAW: of what a plan comes to, whose layout the new image has
-  pub entered : (p : Plan) (clip : List ℕ) (d : Result Decision Refusal) → DecidedAs (plan_verdict p image (length w) room) p image room bytes clip d → (plan_verdict p image (length w) room ≡ Ok tt → Lays p image image') →
+  pub entered : (p : Plan) (clip : List ℕ) (d : Result Decision Refusal) → DecidedAs (plan_verdict p (disc_of image) (length w) room) p image room bytes clip d → (plan_verdict p (disc_of image) (length w) room ≡ Ok tt → Lays p image image') →
       IsEntered (tested p) d t (totals_to t image image') (account_of image (regions_in w 1 (m - 1)) d t)
   entered p clip (Err c) h l = refused-entered p c h.answer
   entered (refused v) clip (Ok decision.Nothing) h l = absurd h.carries
@@ -146,14 +144,14 @@ module _ (image w : List ℕ) (m room : ℕ) (bytes : List ℕ) (long : length b
   entered (filled k y (filled j z p)) clip (Ok (decision.Write n size x)) h l = absurd h.carries
 
 -- LAW: a table that is to be written ends on the disc
-module _ (d : Disc) (image : List ℕ) (m : Means image d) (room : ℕ) (bytes clip : List ℕ) (long : length bytes ≡ room) where
-  table-ends : (c : Change) (size : ℕ) → table_verdict_in c image d.words room ≡ Ok tt → size ≤ room → span bytes 0 size ≡ encode c.nodes → d.start + size ≤ d.end
+module _ (d : Disc) (image : List ℕ) (words : ℕ) (known : OpenImage image words) (is : disc_of image ≡ d) (room : ℕ) (bytes clip : List ℕ) (long : length bytes ≡ room) where
+  table-ends : (c : Change) (size : ℕ) → table_verdict c (disc_of image) words room ≡ Ok tt → size ≤ room → span bytes 0 size ≡ encode c.nodes → d.start + size ≤ d.end
   table-ends c size v held e =
-      let start : fst_offset image ≡ d.start = ap (λ (x : Disc). x.start) m.is in
-      let end : disc_end image ≡ d.end = ap (λ (x : Disc). x.end) m.is in
-      rw (start, end, table-size bytes (encode c.nodes) room size long held e) at (room-law.room c image d.words room (opened image d.words m.known.passed m.known.bytes) v).end
+      let start : fst_offset image ≡ d.start = ap (λ (x : Disc). x.start) is in
+      let end : disc_end image ≡ d.end = ap (λ (x : Disc). x.end) is in
+      rw (start, end, table-size bytes (encode c.nodes) room size long held e) at (room-law.room c image words room (opened image words known.passed known.bytes) v).end
 
-  pub on-disc : (p : Plan) (r : Result Decision Refusal) → DecidedAs (plan_verdict p image d.words room) p image room bytes clip r → OnDisc d r
+  pub on-disc : (p : Plan) (r : Result Decision Refusal) → DecidedAs (plan_verdict p (disc_of image) words room) p image room bytes clip r → OnDisc d r
   on-disc p (Err c) h = tt
   on-disc p (Ok decision.Nothing) h = tt
   on-disc p (Ok (decision.Clip n at)) h = tt
@@ -166,7 +164,7 @@ module _ (d : Disc) (image : List ℕ) (m : Means image d) (room : ℕ) (bytes c
   on-disc (filled k y (filled j z p)) (Ok (decision.Write n size w)) h = absurd h.carries
 
 -- LAW: what is decided on may be entered in the record
-pub may-account : (p : Plan) (image w : List ℕ) (m room : ℕ) (bytes clip : List ℕ) (d : Result Decision Refusal) → DecidedAs (plan_verdict p image (length w) room) p image room bytes clip d → IsOpen image w m → length bytes ≡ room →
-    IsOpen image w m × OnDisc (disc_of image (length w)) d
+pub may-account : (p : Plan) (image w : List ℕ) (m room : ℕ) (bytes clip : List ℕ) (d : Result Decision Refusal) → DecidedAs (plan_verdict p (disc_of image) (length w) room) p image room bytes clip d → IsOpen image w m → length bytes ≡ room →
+    IsOpen image w m × OnDisc (disc_of image) d
 may-account p image w m room bytes clip d h o long =
-    (o, on-disc (disc_of image (length w)) image (record { known = o.known; is = refl }) room bytes clip long p d h)
+    (o, on-disc (disc_of image) image (length w) o.known refl room bytes clip long p d h)

@@ -1,5 +1,5 @@
--- A fill from three other sides (document 02, Point 4): its tests before 25 are the resize's, an empty clip is a resize to 0, and a clip of the
--- file's own size writes the clip only and wants no working bytes. With 25 and the record: FillRecord of ledger. Assumes nothing.
+-- A fill from three other sides: its tests before 25 are the resize's, an empty clip is a resize to 0, and a clip of the file's
+-- own size writes the clip only and wants no working bytes. With 25 and the record: FillRecord of ledger. Assumes nothing.
 use Rattle.std.specs.Prelude.{Ok, Err}
 use Rattle.refusal.specs.Refusal.{Verdict}
 use Rattle.std.specs.Prelude.{ℕ, ◌≤◌, ◌≡◌, refl, List, [], ltb, length, get_or}
@@ -11,18 +11,18 @@ use Rattle.refusal.specs.declared.Refusal.TheVariants.{NotEnoughSpace}
 use Rattle.refusal.specs.Refusal.{refuse, first}
 use Rattle.tree.specs.Table.{none}
 use Rattle.space.specs.declared.totals.Totals.{Totals}
-use Rattle.opened.specs.Opening.{nodes_in, free_space_of, region_of}
+use Rattle.opened.specs.Opening.{nodes_in, free_space_of, region_of, disc_of}
 use Rattle.edits.specs.Change.{Plan, nothing, filled}
 use Rattle.edits.specs.Edits.{resize_file, fill_file, planned, file_verdict, plan_sized, plan_resize, plan_fill, plan_of, plan_verdict, plan_image, counted_verdict, verdict_of, image_after}
 
 module _ (image : List ℕ) (words bytes k : ℕ) (clip : List ℕ) (short : length clip ≤ 0xFFFFFFFF) where
   -- the plan of the fill is that of the resize, and then the clip
-  same-plan : (p : Plan) (v : Verdict) → plan_verdict (planned (first v (refuse (ltb 0xFFFFFFFF (length clip)) NotEnoughSpace (Ok tt))) (filled k clip (planned v p))) image words bytes ≡ plan_verdict (planned v p) image words bytes
+  same-plan : (p : Plan) (v : Verdict) → plan_verdict (planned (first v (refuse (ltb 0xFFFFFFFF (length clip)) NotEnoughSpace (Ok tt))) (filled k clip (planned v p))) (disc_of image) words bytes ≡ plan_verdict (planned v p) (disc_of image) words bytes
   same-plan p (Ok _) = rw (le-ltb 0xFFFFFFFF (length clip) short)
   same-plan p (Err c) = refl
 
   -- THEOREM: its tests are those of a resize to the clip's length
-  pub fill-verdict : plan_verdict (plan_of (fill_file k clip) image) image words bytes ≡ plan_verdict (plan_of (resize_file k (length clip)) image) image words bytes
+  pub fill-verdict : plan_verdict (plan_of (fill_file k clip) (disc_of image)) (disc_of image) words bytes ≡ plan_verdict (plan_of (resize_file k (length clip)) (disc_of image)) (disc_of image) words bytes
   unfolding plan_fill plan_resize
   fill-verdict = same-plan (plan_sized (free_space_of image) (nodes_in image) k (region_of (get_or (nodes_in image) k none)) (length clip)) (file_verdict (nodes_in image) k)
 
@@ -35,12 +35,12 @@ empty-clip t image words bytes k = rw (fill-verdict image words bytes k [] (omeg
     same p (Ok _) = put-none (plan_image p image) _
     same p (Err c) = refl
 
-    same-image : plan_image (plan_of (fill_file k []) image) image ≡ plan_image (plan_of (resize_file k 0) image) image
+    same-image : plan_image (plan_of (fill_file k []) (disc_of image)) image ≡ plan_image (plan_of (resize_file k 0) (disc_of image)) image
     same-image = unfold plan_fill plan_resize in same (plan_sized (free_space_of image) (nodes_in image) k (region_of (get_or (nodes_in image) k none)) 0) (file_verdict (nodes_in image) k)
 
 -- THEOREM: a clip of the file's own size, with any number of working bytes
 pub own-size : (image : List ℕ) (words bytes k : ℕ) (clip : List ℕ) → file_verdict (nodes_in image) k ≡ Ok tt → length clip ≡ (region_of (get_or (nodes_in image) k none)).size → length clip ≤ 0xFFFFFFFF →
-    (plan_verdict (plan_of (fill_file k clip) image) image words bytes ≡ Ok tt) × (plan_image (plan_of (fill_file k clip) image) image ≡ put image (region_of (get_or (nodes_in image) k none)).offset clip)
+    (plan_verdict (plan_of (fill_file k clip) (disc_of image)) (disc_of image) words bytes ≡ Ok tt) × (plan_image (plan_of (fill_file k clip) (disc_of image)) image ≡ put image (region_of (get_or (nodes_in image) k none)).offset clip)
 own-size image words bytes k clip f e h = (rw plan-is, rw plan-is)
   where
     plan-is : plan_fill (free_space_of image) (nodes_in image) k clip ≡ filled k clip nothing

@@ -1,5 +1,5 @@
--- Make-directories' number: in the tree that it made, `lookup` of its path from its start finds exactly that entry, a directory ("walks its
--- path by Lookup's rules"). Assumes nothing.
+-- Make-directories' number: in the tree that it made, `lookup` of its path from its start finds exactly that
+-- entry, a directory. Assumes nothing.
 use Rattle.std.specs.Prelude.{Result, Ok, Err}
 use Prim.Native.Nat.{ℕ, ◌<◌, ◌≤◌}
 use Rattle.std.proofs.Math.Path.{◌≡◌, refl}

@@ -1,6 +1,5 @@
--- The orders in which an edit's own tests refuse (document 01: "insert 15, 13, 17, 19, 12", "path over 1,024 bytes .. 9, then 15"; document 02,
--- Point 4: 15, 16, and then 21 for a long clip), said of the whole edit: of any image that opens, with any record and any working bytes. A
--- test that comes later is not asked for. Assumes nothing.
+-- The orders in which an edit's own tests refuse, said of the whole edit: of any image that opens, with any
+-- record and any working bytes. A test that comes later is not asked for. Assumes nothing.
 use Rattle.std.specs.Prelude.{Ok, Err}
 use Rattle.std.specs.Prelude.{ℕ, ◌^◌, ◌<◌, ◌≤◌, ◌≡◌, true, false, List, length, get_or}
 use Rattle.std.proofs.Common.{arith}

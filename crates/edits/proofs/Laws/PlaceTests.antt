@@ -12,30 +12,29 @@ use Rattle.refusal.specs.Laws.Chains.{refuse-passed}
 use Rattle.refusal.specs.Laws.Tests.{or-false}
 use Rattle.header.specs.Verdicts.{fst_offset, fst_size, fst_max_size}
 use Rattle.space.specs.declared.region.DiscRegion.{DiscRegion}
-use Rattle.space.specs.Used.{uses_byte, used_regions}
+use Rattle.space.specs.Used.{uses_byte, used_regions, no_region}
 use Rattle.space.specs.Free.{free_in}
 use Rattle.space.specs.Laws.UsedLaws.{used-is}
 use Rattle.space.specs.Laws.FreeLaws.{In}
 use Rattle.space.specs.MaxRegionSize.{max_region_size}
-use Rattle.opened.specs.Opening.{free_space_of}
-use Rattle.edits.specs.Change.{above_maximum, room_verdict, place_verdict_in}
-use Rattle.edits.specs.Edits.{no_place}
+use Rattle.opened.specs.Opening.{free_space_of, disc_of}
+use Rattle.edits.specs.Change.{above_maximum, room_verdict, place_verdict}
 
 -- ---- the stated maximum
 
 module _ (image : List ℕ) (room size : ℕ) (place : DiscRegion) where
-  -- LAW: "tested just before the table's 21": a table above the maximum that the working bytes hold is 26, whatever room there is
-  pub stated-first : size ≤ room → above_maximum image size ≡ true → place_verdict_in image room size place ≡ Err TableAboveMaximum
-  unfolding place_verdict_in
+  -- LAW: just before 21: a table above the maximum that the working bytes hold is 26, whatever room there is
+  pub stated-first : size ≤ room → above_maximum (disc_of image) size ≡ true → place_verdict (disc_of image) room size place ≡ Err TableAboveMaximum
+  unfolding place_verdict
   stated-first held above = rw (le-ltb room size held, above)
 
-  -- LAW: "a publisher who sets the field to 0 sees the old rule", and so does a table that is no larger than the maximum
-  pub stated-apart : (fst_max_size image ≡ 0) ⊎ (size ≤ fst_max_size image) → place_verdict_in image room size place ≡ refuse (ltb room size) LimitOrMemory (room_verdict image size place)
-  unfolding place_verdict_in
+  -- LAW: where the maximum is 0, or the table no larger than it, the tests are those without it
+  pub stated-apart : (fst_max_size image ≡ 0) ⊎ (size ≤ fst_max_size image) → place_verdict (disc_of image) room size place ≡ refuse (ltb room size) LimitOrMemory (room_verdict (disc_of image) size place)
+  unfolding place_verdict
   stated-apart (inl none) = rw none
   stated-apart (inr within) = rw (le-ltb (fst_max_size image) size within) (go (ltb 0 (fst_max_size image)))
     where
-      go : (b : Bool) → refuse (ltb room size) LimitOrMemory (refuse (b && false) TableAboveMaximum (room_verdict image size place)) ≡ refuse (ltb room size) LimitOrMemory (room_verdict image size place)
+      go : (b : Bool) → refuse (ltb room size) LimitOrMemory (refuse (b && false) TableAboveMaximum (room_verdict (disc_of image) size place)) ≡ refuse (ltb room size) LimitOrMemory (room_verdict (disc_of image) size place)
       go true = refl
       go false = refl
 
@@ -47,11 +46,11 @@ pub record PlacePassed (image : List ℕ) (room size : ℕ) (place : DiscRegion)
   pub grows : size ≤ max_region_size (fst_offset image) (fst_size image) (free_space_of image)
   pub before : 0 < place.size → fst_offset image + size ≤ place.offset
 
-pub place-passed : (image : List ℕ) (room size : ℕ) (place : DiscRegion) → place_verdict_in image room size place ≡ Ok tt → PlacePassed image room size place
-unfolding place_verdict_in
+pub place-passed : (image : List ℕ) (room size : ℕ) (place : DiscRegion) → place_verdict (disc_of image) room size place ≡ Ok tt → PlacePassed image room size place
+unfolding place_verdict
 place-passed image room size place e =
     let a = refuse-passed (ltb room size) LimitOrMemory _ e in
-    let b = refuse-passed (above_maximum image size) TableAboveMaximum _ a.1 in
+    let b = refuse-passed (above_maximum (disc_of image) size) TableAboveMaximum _ a.1 in
     let c = refuse-passed (ltb (max_region_size (fst_offset image) (fst_size image) (free_space_of image)) size) NotEnoughSpace _ b.1 in
     let d = refuse-passed (ltb 0 place.size && ltb place.offset (fst_offset image + size)) NotEnoughSpace (Ok tt) c.1 in
     record {
@@ -62,7 +61,7 @@ place-passed image room size place e =
     }
 
 -- a region of a list, by its number
-pub in-region : (fs : List DiscRegion) (r : ℕ) → r < length fs → In (get_or fs r no_place) fs
+pub in-region : (fs : List DiscRegion) (r : ℕ) → r < length fs → In (get_or fs r no_region) fs
 in-region [] r h = absurd (omega arith)
 in-region (x ∷ fs) zero h = inl refl
 in-region (x ∷ fs) (suc r) h = inr (in-region fs r (omega arith))

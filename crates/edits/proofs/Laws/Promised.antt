@@ -5,7 +5,7 @@ use Rattle.refusal.specs.Refusal.{Verdict}
 use Rattle.std.specs.Prelude.{ℕ, ◌≡◌, List, length}
 use Rattle.std.proofs.Common.{◌∙◌}
 use Rattle.refusal.specs.declared.Refusal.{Refusal}
-use Rattle.opened.specs.Opening.{zeros}
+use Rattle.opened.specs.Opening.{zeros, disc_of}
 use Rattle.edits.specs.Edits.{Edit, plan_of, plan_number, plan_image, totals_to, verdict_of, image_after, totals_after}
 use Rattle.edits.specs.Promise.{Lent, Edited}
 use Rattle.edits.proofs.Laws.Accepted.{refused-back}
@@ -16,12 +16,12 @@ module _ {A : Type 0} (answer : Verdict → ℕ → A) (ed : Edit) (before after
   verdict = verdict_of ed before.totals before.image (length before.words) (length before.bytes)
 
   abbrev number : ℕ
-  number = plan_number (plan_of ed before.image)
+  number = plan_number (plan_of ed (disc_of before.image))
 
   abbrev new : List ℕ
-  new = plan_image (plan_of ed before.image) before.image
+  new = plan_image (plan_of ed (disc_of before.image)) before.image
 
-  -- THEOREM: "A refusal returns one of document 01's numbers, with image .. unchanged and working memory zero", and the record
+  -- THEOREM: a refusal has one of the numbers, leaves image and record, and zeroes the working memory
   pub edit-refused : (c : Refusal) → verdict ≡ Err c →
       (r ≡ answer (Err c) number) × (after.image ≡ before.image) × (after.totals ≡ before.totals) × (after.words ≡ zeros before.words) × (after.bytes ≡ zeros before.bytes)
   edit-refused c e =

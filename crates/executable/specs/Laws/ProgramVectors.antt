@@ -24,16 +24,16 @@ abbrev before : ℕ → ℕ → Verdict
 before o n = regions_verdict 0x900 (used_regions 0x61A (own_region 0x600 (at o n) ∷ []))
 
 pub record Places : Type 0 where
-  -- "wholly from the table end on": from the table's end on, and one byte of the table
+  -- from the table's end on, and with one byte in the table
   pub abuts-table : behind 0x45A 0x100 ≡ Ok tt
   pub in_table : behind 0x459 0x100 ≡ Err OverlappingRegions
   -- up to a file, one byte into it, from its last byte on, right behind it
   pub abuts-file : (behind 0x500 0x100 ≡ Ok tt) × (behind 0x500 0x101 ≡ Err OverlappingRegions) × (behind 0x6FF 0x100 ≡ Err OverlappingRegions) × (behind 0x700 0x100 ≡ Ok tt)
   -- up to the disc end, and one byte past it
   pub abuts-end : (behind 0x800 0x100 ≡ Ok tt) × (behind 0x801 0x100 ≡ Err OverlappingRegions)
-  -- "wholly between 0x440 and the FST offset", one byte before, one byte into the table, and across it
+  -- between 0x440 and the FST offset, one byte before, one byte into the table, and across it
   pub between : (before 0x440 0x1C0 ≡ Ok tt) × (before 0x43F 0x1C0 ≡ Err OverlappingRegions) × (before 0x440 0x1C1 ≡ Err OverlappingRegions) × (before 0x500 0x200 ≡ Err OverlappingRegions)
-  -- "Used totals .. gain the program where it lies past the table"
+  -- the used total counts the program where it is a region of its own, and not before the table
   pub totals : (used_total 0x45A (own_region 0x440 (at 0x700 0x100) ∷ file ∷ []) ≡ 0x65A) × (used_total 0x61A (own_region 0x600 (at 0x440 0x1C0) ∷ []) ≡ 0x61A)
   pub fourteen : number_of OverlappingRegions ≡ 14
 
@@ -53,7 +53,7 @@ places = record {
 abbrev header : ℕ → ℕ → List ℕ
 header offset size = (0 ∷ 0 ∷ 0 ∷ offset ∷ []) ++ (replicate 0x8C 0 ++ ((0 ∷ 0 ∷ 0 ∷ size ∷ []) ++ replicate 0x50 0))
 
--- "as long as the DOL's file size and at least 0xE4": 0xE3, 0xE4 and 0xE5 bytes
+-- of 0xE3, 0xE4 and 0xE5 bytes
 pub least : ((program_from (header 0xE0 3) 0).size ≡ 0xE4) × ((program_from (header 0xE0 4) 0).size ≡ 0xE4) × ((program_from (header 0xE0 5) 0).size ≡ 0xE5)
 unfolding be32 words_at largest_of
 least = (refl, refl, refl)

@@ -56,7 +56,6 @@ module _ (image image' : List ℕ) (a : Alike image image') where
     total-same = rw (tree-same, start-same, size_same, a.program)
 
     pub free-same : free_space_of image' ≡ free_space_of image
-    unfolding free_space_of
     free-same = rw (used-same, end_same)
 
     header-same : GoodHeader image'

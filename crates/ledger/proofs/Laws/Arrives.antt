@@ -24,7 +24,7 @@ use Rattle.space.specs.declared.region.DiscRegion.{DiscRegion}
 use Rattle.space.specs.Used.{nonempty}
 use Rattle.space.specs.MaxRegionSize.{max_region_size}
 use Rattle.space.specs.Allocate.{allocation_of}
-use Rattle.opened.specs.Opening.{nodes_in, free_space_of}
+use Rattle.opened.specs.Opening.{nodes_in, free_space_of, disc_of}
 use Rattle.edits.specs.Change.{Change, written, Plan, refused, nothing, change}
 use Rattle.edits.specs.Edits.{table_only, planned, new_number, insert_verdict, plan_insert, Made, stopped, made, make, plan_made, plan_make_directories, file_verdict, relocated, relocate_verdict, plan_move, resized, plan_elsewhere, plan_resize, plan_verdict, plan_tree, plan_image}
 use Rattle.ledger.specs.Ledger.{Ledger, files_before}
@@ -45,7 +45,7 @@ use Rattle.ledger.proofs.Laws.PlaceEdits.{is-file, free-else, put-else, small_si
 module _ (image : List ℕ) (words bytes : ℕ) where
   -- a plan that passes its tests leaves its tree in the image, the program as it was, and its layout
   abbrev pub Arrives : Plan → Type 0
-  Arrives p = plan_verdict p image words bytes ≡ Ok tt → (nodes_in (plan_image p image) ≡ plan_tree p (nodes_in image)) × ProgramKept image (plan_image p image) × Lays p image (plan_image p image)
+  Arrives p = plan_verdict p (disc_of image) words bytes ≡ Ok tt → (nodes_in (plan_image p image) ≡ plan_tree p (nodes_in image)) × ProgramKept image (plan_image p image) × Lays p image (plan_image p image)
 
   arrives-refused : (c : Refusal) → Arrives (refused (Err c))
   arrives-refused c e = (refl, nothing-done image, refl)

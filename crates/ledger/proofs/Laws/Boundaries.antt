@@ -23,7 +23,7 @@ call ed t words bytes = record { edit = ed; totals = t; words = words; bytes = b
 pub none_within : (w : ℕ) → AllWithin w []
 none_within w = tt
 
--- LAW: a call of each kind, lent all w words and handed any record; "Offsets and sizes passed in have 32 bits.", and a clip is of bytes
+-- LAW: a call of each kind, lent all w words and handed any record; its numbers have 32 bits, and a clip is of bytes
 pub each_within : (w bytes p start k to n : ℕ) (nm path clip : List ℕ) (t : Totals) → to < 2 ^ 32 → n < 2 ^ 32 → AllBytes clip →
     AllWithin w (call (insert_file p nm) t w bytes ∷ call (insert_directory p nm) t w bytes ∷ call (make_directories start path) t w bytes ∷ call (move_file k to) t w bytes ∷ call (resize_file k n) t w bytes ∷ call (fill_file k clip) t w bytes ∷ call rewrite t w bytes ∷ [])
 each_within w bytes p start k to n nm path clip t ht hn c = (omega arith, tt, (omega arith, tt, (omega arith, tt, (omega arith, ht, (omega arith, hn, (omega arith, c, (omega arith, tt, tt)))))))

@@ -35,7 +35,7 @@ module _ (w : ℕ) (image : List ℕ) (l : Ledger) (K : Kept w image l) (words b
   kind-is : (k : ℕ) → file_verdict (nodes_in image) k ≡ Ok tt → is_directory (get_or l.nodes k none) ≡ false
   kind-is k v = rw (← K.shape) (kind-bare (nodes_in image) k ∙ is-file (nodes_in image) k v)
 
-  -- "file wanted" is 16
+  -- the entry is a file, or it is 16
   of-file : (totals : Totals) (ed : Edit) → verdict_of ed totals image words bytes ≡ Ok tt → of_file ed l
   unfolding plan_move plan_resize plan_fill
   of-file totals (insert_file p nm) v = tt

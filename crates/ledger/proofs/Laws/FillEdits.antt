@@ -11,7 +11,7 @@ use Rattle.tree.specs.Table.{Node, file, directory, none}
 use Rattle.tree.specs.Lookup.{is_directory}
 use Rattle.tree.specs.Insert.{placed, set_place}
 use Rattle.tree.proofs.Laws.PlaceLaws.{set_place-at}
-use Rattle.opened.specs.Opening.{nodes_in, free_space_of, used_of, region_of}
+use Rattle.opened.specs.Opening.{nodes_in, free_space_of, used_of, region_of, disc_of}
 use Rattle.edits.specs.Change.{Plan, filled}
 use Rattle.edits.specs.Edits.{resize_file, fill_file, file_verdict, clip_verdict, plan_resize, plan_fill, plan_verdict, plan_tree, plan_image}
 use Rattle.ledger.specs.Ledger.{Ledger, bare, files_before, history_of, refilled, lowered, entered}
@@ -53,7 +53,7 @@ module _ (w : ℕ) (image : List ℕ) (l : Ledger) (K : Kept w image l) (words b
   abbrev image' : List ℕ
   image' = plan_image p image
 
-  module _ (v : clip_verdict (nodes_in image) k n ≡ Ok tt) (u : plan_verdict p image words bytes ≡ Ok tt) where
+  module _ (v : clip_verdict (nodes_in image) k n ≡ Ok tt) (u : plan_verdict p (disc_of image) words bytes ≡ Ok tt) where
     verdicts : (file_verdict (nodes_in image) k ≡ Ok tt) × (n < 2 ^ 32)
     verdicts =
         let t = first-passed (file_verdict (nodes_in image) k) _ v in

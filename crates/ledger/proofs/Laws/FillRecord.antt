@@ -7,7 +7,7 @@ use Rattle.std.proofs.Common.{◌∙◌, arith}
 use Rattle.endian.specs.Bytes.{put, AllBytes}
 use Rattle.tree.specs.Table.{none}
 use Rattle.space.specs.declared.totals.Totals.{Totals}
-use Rattle.opened.specs.Opening.{nodes_in, free_space_of, used_of, region_of, opening}
+use Rattle.opened.specs.Opening.{nodes_in, free_space_of, used_of, region_of, opening, disc_of}
 use Rattle.disc.specs.Calls.{totals_of}
 use Rattle.edits.specs.Change.{filled}
 use Rattle.edits.specs.Edits.{resize_file, fill_file, file_verdict, clip_verdict, plan_resize, plan_fill, plan_of, plan_verdict, plan_image, counted_verdict, verdict_of, image_after, totals_after}
@@ -20,9 +20,9 @@ use Rattle.ledger.proofs.Laws.PlacesAfter.{passed-plan}
 use Rattle.ledger.proofs.Laws.RecordTells.{own-record}
 
 -- where the image opens and the fill's own tests pass, the resize leaves as many bytes used, and the same free
-same-space : (image clip : List ℕ) (k words bytes : ℕ) → AllBytes image → AllBytes clip → opening image words ≡ Ok tt → plan_verdict (plan_of (fill_file k clip) image) image words bytes ≡ Ok tt →
-    (used_of (plan_image (plan_of (fill_file k clip) image) image) ≡ used_of (plan_image (plan_of (resize_file k (length clip)) image) image))
-    × (free_space_of (plan_image (plan_of (fill_file k clip) image) image) ≡ free_space_of (plan_image (plan_of (resize_file k (length clip)) image) image))
+same-space : (image clip : List ℕ) (k words bytes : ℕ) → AllBytes image → AllBytes clip → opening image words ≡ Ok tt → plan_verdict (plan_of (fill_file k clip) (disc_of image)) (disc_of image) words bytes ≡ Ok tt →
+    (used_of (plan_image (plan_of (fill_file k clip) (disc_of image)) image) ≡ used_of (plan_image (plan_of (resize_file k (length clip)) (disc_of image)) image))
+    × (free_space_of (plan_image (plan_of (fill_file k clip) (disc_of image)) image) ≡ free_space_of (plan_image (plan_of (resize_file k (length clip)) (disc_of image)) image))
 unfolding plan_fill
 same-space image clip k words bytes b c o v =
     let l : Ledger = first_ledger image in
@@ -35,12 +35,12 @@ pub fill-as-resize : (t : Totals) (image clip : List ℕ) (k words bytes : ℕ) 
     (verdict_of (fill_file k clip) t image words bytes ≡ verdict_of (resize_file k (length clip)) t image words bytes)
     × (totals_after (fill_file k clip) t image words bytes ≡ totals_after (resize_file k (length clip)) t image words bytes)
 unfolding totals_after verdict_of counted_verdict
-fill-as-resize t image clip k words bytes b c short = go (opening image words) refl (plan_verdict (plan_of (fill_file k clip) image) image words bytes) refl
+fill-as-resize t image clip k words bytes b c short = go (opening image words) refl (plan_verdict (plan_of (fill_file k clip) (disc_of image)) (disc_of image) words bytes) refl
   where
-    tests : plan_verdict (plan_of (fill_file k clip) image) image words bytes ≡ plan_verdict (plan_of (resize_file k (length clip)) image) image words bytes
+    tests : plan_verdict (plan_of (fill_file k clip) (disc_of image)) (disc_of image) words bytes ≡ plan_verdict (plan_of (resize_file k (length clip)) (disc_of image)) (disc_of image) words bytes
     tests = fill-verdict image words bytes k clip short
 
-    go : (o : Verdict) → opening image words ≡ o → (v : Verdict) → plan_verdict (plan_of (fill_file k clip) image) image words bytes ≡ v →
+    go : (o : Verdict) → opening image words ≡ o → (v : Verdict) → plan_verdict (plan_of (fill_file k clip) (disc_of image)) (disc_of image) words bytes ≡ v →
         (verdict_of (fill_file k clip) t image words bytes ≡ verdict_of (resize_file k (length clip)) t image words bytes)
         × (totals_after (fill_file k clip) t image words bytes ≡ totals_after (resize_file k (length clip)) t image words bytes)
     go (Err x) o v e = (rw o, rw o)

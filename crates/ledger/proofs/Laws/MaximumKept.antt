@@ -10,8 +10,8 @@ use Rattle.refusal.specs.Laws.Chains.{first-passed}
 use Rattle.refusal.specs.Laws.Tests.{lt-or-le}
 use Rattle.header.specs.Verdicts.{fst_size, fst_max_size}
 use Rattle.tree.specs.Table.{encode, limits}
-use Rattle.opened.specs.Opening.{table_of}
-use Rattle.edits.specs.Change.{Change, table_verdict_in, Plan, refused, nothing, change, filled}
+use Rattle.opened.specs.Opening.{table_of, disc_of}
+use Rattle.edits.specs.Change.{Change, table_verdict, Plan, refused, nothing, change, filled}
 use Rattle.edits.specs.Edits.{Edit, plan_of, plan_verdict, plan_image, verdict_of, image_after}
 use Rattle.edits.proofs.Laws.Accepted.{accepted}
 use Rattle.edits.proofs.Laws.PlaceTests.{place-passed}
@@ -46,12 +46,12 @@ trans a b c p q =
 -- ---- one call
 
 -- a change that passed its tests has a table within a nonzero maximum
-table-within : (c : Change) (image : List ℕ) (words bytes : ℕ) → table_verdict_in c image words bytes ≡ Ok tt → 0 < fst_max_size image → length (encode c.nodes) ≤ fst_max_size image
-unfolding table_verdict_in
+table-within : (c : Change) (image : List ℕ) (words bytes : ℕ) → table_verdict c (disc_of image) words bytes ≡ Ok tt → 0 < fst_max_size image → length (encode c.nodes) ≤ fst_max_size image
+unfolding table_verdict
 table-within c image words bytes v = (place-passed image bytes (length (encode c.nodes)) c.place (first-passed (limits c.nodes words) _ v).1).within
 
 -- an image that has the layout of a plan whose tests pass
-laid-within : (p : Plan) (image image' : List ℕ) (words bytes : ℕ) → plan_verdict p image words bytes ≡ Ok tt → Lays p image image' → WithinMaximum image image'
+laid-within : (p : Plan) (image image' : List ℕ) (words bytes : ℕ) → plan_verdict p (disc_of image) words bytes ≡ Ok tt → Lays p image image' → WithinMaximum image image'
 laid-within (refused (Err c)) image image' words bytes v l = let z : ◌≡◌ {A = ℕ} 0 1 = cc in absurd (omega arith)
 laid-within (refused (Ok _)) image image' words bytes v l = let z : ◌≡◌ {A = ℕ} 0 1 = cc in absurd (omega arith)
 laid-within nothing image image' words bytes v l = kept-within image image' l.0.maximum (λ z h. (l.0.table, l.1))
@@ -63,10 +63,10 @@ pub call-within : (ed : Edit) (totals : Totals) (image : List ℕ) (words bytes 
 unfolding image_after
 call-within ed totals image words bytes b h = go (verdict_of ed totals image words bytes) refl
   where
-    go : (v : Verdict) → verdict_of ed totals image words bytes ≡ v → WithinMaximum image (cond (is_refused v) image (plan_image (plan_of ed image) image))
+    go : (v : Verdict) → verdict_of ed totals image words bytes ≡ v → WithinMaximum image (cond (is_refused v) image (plan_image (plan_of ed (disc_of image)) image))
     go (Ok tt) e =
         let a = accepted ed totals image words bytes e in
-        laid-within (plan_of ed image) image (plan_image (plan_of ed image) image) words bytes a.own (arrives image words bytes b a.opens ed h a.own).2
+        laid-within (plan_of ed (disc_of image)) image (plan_image (plan_of ed (disc_of image)) image) words bytes a.own (arrives image words bytes b a.opens ed h a.own).2
     go (Err c) e = same image
 
 -- ---- any list

@@ -16,7 +16,7 @@ use Rattle.tree.specs.Lookup.{is_directory, components, lookup}
 use Rattle.tree.specs.Insert.{insert_at, empty_file, empty_directory}
 use Rattle.tree.proofs.Laws.InsertedList.{IsNested, Fresh, well-nested}
 use Rattle.space.specs.declared.totals.Totals.{Totals}
-use Rattle.opened.specs.Opening.{nodes_in, opening}
+use Rattle.opened.specs.Opening.{nodes_in, opening, disc_of}
 use Rattle.edits.specs.Change.{Plan, change}
 use Rattle.edits.specs.Edits.{insert_file, insert_directory, make_directories, table_only, new_number, insert_verdict, Made, stopped, made, make, plan_made, plan_make_directories, plan_verdict, plan_tree, verdict_of, image_after, plan_number, plan_of, numbered_as, Edit}
 use Rattle.edits.proofs.Laws.Accepted.{accepted}
@@ -29,7 +29,7 @@ use Rattle.edits.proofs.Laws.InsertNumber.{new-entry, new-found, new-from-root}
 
 -- what the edits that give an entry's number answer
 abbrev answer_of : Edit → Totals → List ℕ → ℕ → ℕ → Result ℕ Refusal
-answer_of ed totals image words bytes = numbered_as (verdict_of ed totals image words bytes) (plan_number (plan_of ed image))
+answer_of ed totals image words bytes = numbered_as (verdict_of ed totals image words bytes) (plan_number (plan_of ed (disc_of image)))
 
 -- what an insert of `new` below p, which answered so, leaves in the image
 pub record Inserted (image after : List ℕ) (answer : Result ℕ Refusal) (p : ℕ) (new : Node) : Type 0 where
@@ -50,7 +50,7 @@ pub record MadeFrom (image after : List ℕ) (answer : Result ℕ Refusal) (star
   pub answered : answer ≡ Ok number
   -- the tree is the one that the walk made
   pub tree : nodes_in after ≡ made_nodes (nodes_in image) (make (nodes_in image) [] start false (components path))
-  -- "walks its path by Lookup's rules": the path leads to that number, and a directory is there
+  -- the path leads to that number, and a directory is there
   pub found : lookup (nodes_in after) start path ≡ Ok number
   pub kind : is_directory (get_or (nodes_in after) number none) ≡ true
 
@@ -92,7 +92,7 @@ module _ (totals : Totals) (image : List ℕ) (words bytes : ℕ) (b : AllBytes 
       (tree-after (insert_directory p nm) totals image words bytes b tt v ∙ ap (λ (x : Plan). plan_tree x (nodes_in image)) t.2)
 
   made_as : (start : ℕ) (path : List ℕ) (m : Made) → opening image words ≡ Ok tt → make (nodes_in image) [] start false (components path) ≡ m → start < length (nodes_in image) →
-      plan_verdict (plan_made m) image words bytes ≡ Ok tt → (after : List ℕ) → nodes_in after ≡ plan_tree (plan_made m) (nodes_in image) → (answer : Result ℕ Refusal) → answer ≡ Ok (plan_number (plan_made m)) →
+      plan_verdict (plan_made m) (disc_of image) words bytes ≡ Ok tt → (after : List ℕ) → nodes_in after ≡ plan_tree (plan_made m) (nodes_in image) → (answer : Result ℕ Refusal) → answer ≡ Ok (plan_number (plan_made m)) →
       MadeFrom image after answer start path
   made_as start path (stopped c) e q h v after t answer a = let z : ◌≡◌ {A = ℕ} 0 1 = cc in absurd (omega arith)
   made_as start path (made new k true) e q h v after t answer a = let z : ◌≡◌ {A = ℕ} 0 1 = cc in absurd (omega arith)

@@ -73,7 +73,7 @@ other-words image w w' h b e =
 pub more-words : (image : List ℕ) (w w' : ℕ) → w ≤ w' → AllBytes image → opening image w ≡ Ok tt → opening image w' ≡ Ok tt
 more-words image w w' h = other-words image w w' (inl h)
 
--- LAW: "4 × (entries + 2)" words are enough for every image that opens, with a program behind the table too
+-- LAW: 4 × (entries + 2) words are enough for every image that opens, with a program behind the table too
 pub enough-words : (image : List ℕ) (w : ℕ) → AllBytes image → opening image w ≡ Ok tt → opening image (4 * (count (table_of image) + 2)) ≡ Ok tt
 enough-words image w = other-words image w (4 * (count (table_of image) + 2)) (inr (omega arith))
 

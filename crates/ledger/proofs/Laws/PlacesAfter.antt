@@ -25,7 +25,7 @@ use Rattle.space.specs.Allocate.{allocation_of}
 use Rattle.space.specs.Laws.AllocateLaws.{found-region}
 use Rattle.header.specs.Verdicts.{disc_end}
 use Rattle.space.specs.declared.totals.Totals.{Totals}
-use Rattle.opened.specs.Opening.{nodes_in, used_in, free_space_of, region_of}
+use Rattle.opened.specs.Opening.{nodes_in, used_in, free_space_of, region_of, disc_of}
 use Rattle.edits.specs.Change.{Plan, nothing, change, filled}
 use Rattle.edits.specs.Edits.{move_file, resize_file, fill_file, planned, file_verdict, relocated, relocate_verdict, plan_move, resized, plan_elsewhere, clip_verdict, plan_resize, plan_fill, plan_verdict, plan_tree, verdict_of, image_after}
 use Rattle.edits.proofs.Laws.Accepted.{accepted}
@@ -43,12 +43,12 @@ pub record ResizedTo (image after : List ℕ) (k : ℕ) (nm : List ℕ) (offset 
   -- a shrink, and growth that fits where the file is, leave it there
   pub shrinks : n ≤ size → at ≡ offset
   pub grows : n ≤ max_region_size offset size (free_space_of image) → at ≡ offset
-  -- "Growth finds a place with alignment 0x8000 where the file can't grow where it is."
+  -- at a multiple of 0x8000, where it can't grow in place
   pub found : size < n → max_region_size offset size (free_space_of image) < n → (r : DiscRegion) × (allocation_of 0x8000 n (free_space_of image) ≡ Ok r) × (at ≡ r.offset)
   pub multiple : size < n → max_region_size offset size (free_space_of image) < n → (j : ℕ) × (at ≡ j * 0x8000)
 
 -- a plan behind tests that passes
-pub passed-plan : (v : Verdict) (p : Plan) (image : List ℕ) (words bytes : ℕ) → plan_verdict (planned v p) image words bytes ≡ Ok tt → (v ≡ Ok tt) × (plan_verdict p image words bytes ≡ Ok tt) × (planned v p ≡ p)
+pub passed-plan : (v : Verdict) (p : Plan) (image : List ℕ) (words bytes : ℕ) → plan_verdict (planned v p) (disc_of image) words bytes ≡ Ok tt → (v ≡ Ok tt) × (plan_verdict p (disc_of image) words bytes ≡ Ok tt) × (planned v p ≡ p)
 passed-plan (Ok _) p image words bytes e = (refl, e, refl)
 passed-plan (Err c) p image words bytes e = let z : ◌≡◌ {A = ℕ} 0 1 = cc in absurd (omega arith)
 
@@ -102,7 +102,6 @@ module _ (totals : Totals) (image : List ℕ) (words bytes : ℕ) (b : AllBytes 
     -- it goes where allocation found room
     away : (r : DiscRegion) → allocation_of 0x8000 n (free_space_of image) ≡ Ok r → size < n → max_region_size offset size (free_space_of image) < n →
         nodes_in after ≡ set_place k r.offset n (nodes_in image) → ResizedTo image after k nm offset size n
-    unfolding free_space_of
     away r e h l t = record {
       at = r.offset;
       place = placed_at after r.offset n inside t;
@@ -113,7 +112,7 @@ module _ (totals : Totals) (image : List ℕ) (words bytes : ℕ) (b : AllBytes 
     }
 
     by_cases : (a : Bool) → eqb n size ≡ a → (t : Bool) → (leb n size || leb n (max_region_size offset size (free_space_of image))) ≡ t → (al : Result DiscRegion Refusal) → allocation_of 0x8000 n (free_space_of image) ≡ al →
-        plan_verdict (cond a nothing (cond t (change k (resized (nodes_in image) k old n)) (plan_elsewhere (nodes_in image) (free_space_of image) k old n al))) image words bytes ≡ Ok tt →
+        plan_verdict (cond a nothing (cond t (change k (resized (nodes_in image) k old n)) (plan_elsewhere (nodes_in image) (free_space_of image) k old n al))) (disc_of image) words bytes ≡ Ok tt →
         nodes_in after ≡ plan_tree (cond a nothing (cond t (change k (resized (nodes_in image) k old n)) (plan_elsewhere (nodes_in image) (free_space_of image) k old n al))) (nodes_in image) →
         ResizedTo image after k nm offset size n
     by_cases true e t u al q v w =

@@ -4,6 +4,7 @@ use Rattle.refusal.specs.Refusal.{Verdict}
 use Rattle.std.specs.Prelude.{ℕ, ◌≡◌, refl, Bool, true, false, cond, List}
 use Rattle.std.proofs.Common.{arith}
 use Rattle.refusal.specs.declared.Refusal.{Refusal}
+use Rattle.opened.specs.Opening.{disc_of}
 use Rattle.edits.specs.Change.{Plan, refused}
 use Rattle.edits.specs.Edits.{planned, plan_verdict, plan_image}
 use Rattle.ledger.specs.Ledger.{Ledger}
@@ -12,7 +13,7 @@ use Rattle.ledger.proofs.Laws.Kept.{Kept}
 module _ (w : ℕ) (image : List ℕ) (words bytes : ℕ) where
   -- a plan that passes its tests leaves the image true to the ledger
   abbrev pub Good : Plan → Ledger → Type 0
-  Good p l' = plan_verdict p image words bytes ≡ Ok tt → Kept w (plan_image p image) l'
+  Good p l' = plan_verdict p (disc_of image) words bytes ≡ Ok tt → Kept w (plan_image p image) l'
 
   pub good-planned : (v : Verdict) (p : Plan) (l' : Ledger) → (v ≡ Ok tt → Good p l') → Good (planned v p) l'
   good-planned (Ok _) p l' f = f refl

@@ -10,7 +10,7 @@ use Rattle.endian.specs.Bytes.{AllBytes}
 use Rattle.refusal.specs.Refusal.{first, is_refused}
 use Rattle.space.specs.declared.totals.Totals.{Totals}
 use Rattle.space.specs.Totals.{totals_verdict, totals_moved}
-use Rattle.opened.specs.Opening.{opening, used_of}
+use Rattle.opened.specs.Opening.{opening, used_of, disc_of}
 use Rattle.opened.proofs.Laws.OpeningLaws.{disc-filled}
 use Rattle.disc.specs.Calls.{totals_of, record_answer}
 use Rattle.edits.specs.Edits.{Edit, plan_of, plan_verdict, plan_image, counted_verdict, totals_to, verdict_of, image_after, totals_after}
@@ -22,7 +22,7 @@ use Rattle.ledger.proofs.Laws.Steps.{step-accepted}
 use Rattle.ledger.proofs.Laws.Sequence.{start, along}
 
 -- a record that was made: the image opened, and the record is the image's
-made_of : (image : List ℕ) (w : ℕ) (t : Totals) → record_answer image w ≡ Ok t → (opening image w ≡ Ok tt) × (t ≡ totals_of image 0)
+pub made_of : (image : List ℕ) (w : ℕ) (t : Totals) → record_answer image w ≡ Ok t → (opening image w ≡ Ok tt) × (t ≡ totals_of image 0)
 unfolding record_answer
 made_of image w t e = go (opening image w) refl
   where
@@ -43,9 +43,9 @@ unfolding totals_after image_after
 call-tells c image n e = go (verdict_of c.edit c.totals image c.words c.bytes)
   where
     go : (v : Verdict) →
-        cond (is_refused v) c.totals (totals_to c.totals image (plan_image (plan_of c.edit image) image))
-        ≡ totals_of (cond (is_refused v) image (plan_image (plan_of c.edit image) image)) (n + cond (not (is_refused v)) 1 0)
-    go (Ok _) = rw e (moved_on image (plan_image (plan_of c.edit image) image) n)
+        cond (is_refused v) c.totals (totals_to c.totals image (plan_image (plan_of c.edit (disc_of image)) image))
+        ≡ totals_of (cond (is_refused v) image (plan_image (plan_of c.edit (disc_of image)) image)) (n + cond (not (is_refused v)) 1 0)
+    go (Ok _) = rw e (moved_on image (plan_image (plan_of c.edit (disc_of image)) image) n)
     go (Err x) = let z : n + 0 ≡ n = omega arith in rw z e
 
 tells-along : (calls : List Call) (image : List ℕ) (t : Totals) (n : ℕ) → t ≡ totals_of image n → HandedOn t calls image →
@@ -78,20 +78,20 @@ made-anew image w n t new tells e =
 
 module _ (image : List ℕ) (words bytes : ℕ) (b : AllBytes image) (e : opening image words ≡ Ok tt) (ed : Edit) (h : Passable ed) where
   abbrev new : List ℕ
-  new = plan_image (plan_of ed image) image
+  new = plan_image (plan_of ed (disc_of image)) image
 
   -- the new image's used bytes have 32 bits
-  used-small : plan_verdict (plan_of ed image) image words bytes ≡ Ok tt → used_of new < 2 ^ 32
+  used-small : plan_verdict (plan_of ed (disc_of image)) (disc_of image) words bytes ≡ Ok tt → used_of new < 2 ^ 32
   used-small v =
       let k = step-accepted words image (first_ledger image) (start image words words (omega arith) b e) words bytes (omega arith) ed h v in
       omega (arith, disc-filled new words k.bytes k.opens, (opened new words k.opens k.bytes).bounds.small)
 
   -- THEOREM: with a record that is the image's, and a count that can rise, an edit is judged by its own tests: it never meets 25
-  pub own-record : (n : ℕ) → n + 1 < 2 ^ 32 → verdict_of ed (totals_of image n) image words bytes ≡ plan_verdict (plan_of ed image) image words bytes
+  pub own-record : (n : ℕ) → n + 1 < 2 ^ 32 → verdict_of ed (totals_of image n) image words bytes ≡ plan_verdict (plan_of ed (disc_of image)) (disc_of image) words bytes
   unfolding verdict_of counted_verdict totals_verdict
-  own-record n l = rw e (go (plan_verdict (plan_of ed image) image words bytes) refl)
+  own-record n l = rw e (go (plan_verdict (plan_of ed (disc_of image)) (disc_of image) words bytes) refl)
     where
-      go : (v : Verdict) → plan_verdict (plan_of ed image) image words bytes ≡ v → first v (totals_verdict (totals_of image n) (used_of image) (used_of new)) ≡ v
+      go : (v : Verdict) → plan_verdict (plan_of ed (disc_of image)) (disc_of image) words bytes ≡ v → first v (totals_verdict (totals_of image n) (used_of image) (used_of new)) ≡ v
       go (Err c) q = refl
       go (Ok tt) q =
           rw (le-ltb (used_of image + used_of new) (used_of image) (omega arith), le-ltb 0xFFFFFFFF (used_of image + used_of new - used_of image) (omega (arith, used-small q)), le-ltb 0xFFFFFFFF (n + 1) (omega arith))

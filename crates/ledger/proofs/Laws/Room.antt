@@ -14,8 +14,8 @@ use Rattle.space.specs.MaxRegionSize.{max_region_size}
 use Rattle.refusal.specs.Laws.Tests.{lt-or-le, or_cases}
 use Rattle.space.specs.Laws.GrowthLaws.{IsLargestSize, table-largest, file-largest, place-free}
 use Rattle.executable.specs.Program.{program_behind}
-use Rattle.opened.specs.Opening.{nodes_in, behind_table, used_in, free_space_of}
-use Rattle.edits.specs.Change.{Change, table_verdict_in}
+use Rattle.opened.specs.Opening.{nodes_in, behind_table, used_in, free_space_of, disc_of}
+use Rattle.edits.specs.Change.{Change, table_verdict}
 use Rattle.edits.specs.Edits.{relocate_verdict, overlaps_itself}
 use Rattle.edits.proofs.Laws.PlaceTests.{PlacePassed, place-passed, in-region}
 use Rattle.ledger.proofs.Laws.Written.{new_end}
@@ -24,7 +24,7 @@ use Rattle.ledger.proofs.Laws.Apart.{Has, region, free-clear}
 use Rattle.ledger.proofs.Laws.Opened.{Opened}
 
 pub free-places : (image : List ℕ) → free_space_of image ≡ free_regions (disc_end image) (used_regions (table_end image) (places_in image))
-unfolding free_space_of used_in behind_table
+unfolding used_in behind_table
 free-places image = rw (used-files (table_end image) (program_behind image) (nodes_in image))
 
 -- the first n bytes of a region that has no byte i do not have it either
@@ -39,13 +39,13 @@ pub record TableRoom (c : Change) (image : List ℕ) (words : ℕ) : Type 0 wher
   pub clear : (k i : ℕ) → Has (region (places_in image) k) i → new_end c image ≤ i
   pub place : 0 < c.place.size → new_end c image ≤ c.place.offset
 
-module _ (c : Change) (image : List ℕ) (words bytes : ℕ) (o : Opened image) (v : table_verdict_in c image words bytes ≡ Ok tt) where
+module _ (c : Change) (image : List ℕ) (words bytes : ℕ) (o : Opened image) (v : table_verdict c (disc_of image) words bytes ≡ Ok tt) where
   within-ok : limits c.nodes words ≡ Ok tt
-  unfolding table_verdict_in
+  unfolding table_verdict
   within-ok = (first-passed (limits c.nodes words) _ v).0
 
   tests : PlacePassed image bytes (length (encode c.nodes)) c.place
-  unfolding table_verdict_in
+  unfolding table_verdict
   tests = place-passed image bytes (length (encode c.nodes)) c.place (first-passed (limits c.nodes words) _ v).1
 
   largest : IsLargestSize (free_in (used_regions (table_end image) (places_in image))) (disc_end image) (fst_offset image) (fst_size image) (max_region_size (fst_offset image) (fst_size image) (free_space_of image))

@@ -67,7 +67,6 @@ module _ (w : ℕ) (image : List ℕ) (l : Ledger) (k : Kept w image l) where
   used-is = omega arith
 
   pub sum : table_end image + (program_behind image).size + total_size (map region_of (nodes_in image)) + total_size (free_space_of image) ≡ disc_end image
-  unfolding free_space_of
   sum = rw (← used-is) (disc-filled image w k.bytes k.opens)
 
   pub used-reported : totals_answer image w ≡ Ok (record { disc_end = disc_end image; used = table_end image + (program_behind image).size + total_size (map region_of (nodes_in image)) })

@@ -5,6 +5,7 @@ use Rattle.std.specs.Prelude.{ℕ, ◌≤◌, ◌≡◌, cond, not, List}
 use Rattle.std.proofs.Math.Path.{refl}
 use Rattle.refusal.specs.Refusal.{is_refused}
 use Rattle.space.specs.declared.totals.Totals.{Totals}
+use Rattle.opened.specs.Opening.{disc_of}
 use Rattle.edits.specs.Edits.{Edit, insert_file, insert_directory, make_directories, move_file, resize_file, fill_file, rewrite, plan_of, verdict_of, plan_image, image_after}
 use Rattle.edits.proofs.Laws.Accepted.{accepted}
 use Rattle.ledger.specs.Ledger.{Ledger, entered}
@@ -17,7 +18,7 @@ use Rattle.ledger.proofs.Laws.FillEdits.{step-fill}
 
 module _ (w : ℕ) (image : List ℕ) (l : Ledger) (K : Kept w image l) (words bytes : ℕ) (lent : words ≤ w) where
   -- LAW: a plan whose own tests pass keeps what holds
-  pub step-accepted : (ed : Edit) → Passable ed → Good w image words bytes (plan_of ed image) (entered ed l)
+  pub step-accepted : (ed : Edit) → Passable ed → Good w image words bytes (plan_of ed (disc_of image)) (entered ed l)
   step-accepted (insert_file p nm) h = step-insert-file w image l K words bytes lent p nm
   step-accepted (insert_directory p nm) h = step-insert-directory w image l K words bytes lent p nm
   step-accepted (make_directories start path) h = step-make-directories w image l K words bytes lent start path
@@ -31,6 +32,6 @@ module _ (w : ℕ) (image : List ℕ) (l : Ledger) (K : Kept w image l) (words b
   unfolding image_after
   step totals ed h = go (verdict_of ed totals image words bytes) refl
     where
-      go : (v : Verdict) → verdict_of ed totals image words bytes ≡ v → Kept w (cond (is_refused v) image (plan_image (plan_of ed image) image)) (cond (not (is_refused v)) (entered ed l) l)
+      go : (v : Verdict) → verdict_of ed totals image words bytes ≡ v → Kept w (cond (is_refused v) image (plan_image (plan_of ed (disc_of image)) image)) (cond (not (is_refused v)) (entered ed l) l)
       go (Ok _) e = step-accepted ed h (accepted ed totals image words bytes e).own
       go (Err c) e = K

@@ -16,8 +16,8 @@ use Rattle.tree.specs.Insert.{insert_at, empty_file, empty_directory}
 use Rattle.tree.proofs.Laws.InsertLaws.{Fresh, insert-sound}
 use Rattle.space.specs.Used.{used_regions}
 use Rattle.executable.specs.Program.{program_behind}
-use Rattle.opened.specs.Opening.{nodes_in}
-use Rattle.edits.specs.Change.{written, table_verdict_in, change}
+use Rattle.opened.specs.Opening.{nodes_in, disc_of}
+use Rattle.edits.specs.Change.{written, table_verdict, change}
 use Rattle.edits.specs.Edits.{insert_file, insert_directory, make_directories, table_only, new_number, is_found, insert_verdict, plan_insert, Made, stopped, made, make, plan_made, plan_make_directories}
 use Rattle.ledger.specs.Ledger.{Ledger, bare, files_before, new_history, put_in, made_nodes, entered}
 use Rattle.ledger.proofs.Laws.Written.{new_end}
@@ -63,7 +63,7 @@ module _ (w : ℕ) (image : List ℕ) (l : Ledger) (K : Kept w image l) (words b
   o : Opened image
   o = opened-kept w image l K
 
-  on-table : (new : List Node) → IsWellFormed new → table_verdict_in (table_only new) image words bytes ≡ Ok tt →
+  on-table : (new : List Node) → IsWellFormed new → table_verdict (table_only new) (disc_of image) words bytes ≡ Ok tt →
       used_regions (new_end (table_only new) image) (program_behind image ∷ files_of new) ≡ used_regions (new_end (table_only new) image) (places_in image) → Tabled w image new l.histories (written (table_only new) image)
   on-table new wf v same = tabled w image l K words lent new wf (room (table_only new) image words bytes o v) same
 

@@ -34,7 +34,7 @@ first = record {
       record { place = 0x4A0; bytes = 7 ∷ 8 ∷ 9 ∷ []; m = 3; named = false } ∷ [];
 }
 
--- "It starts as the tree opening reads from the first image, m each file's size, none named."
+-- at first: the tree of the image, m each file's size, none named
 begins : first_ledger image ≡ first
 unfolding first image put first_histories nodes_in table_of nodes_of nodes_from node_at name_at count be24 be32
 begins = refl

@@ -1,6 +1,6 @@
--- `ledger::any_list` meets its contract: the theorem is proved in proofs/Laws/Demand3.
-use Rattle.ledger.proofs.Laws.Demand3.{demand-3}
+-- `ledger::any_list` meets its contract: the theorem is proved in proofs/Laws/AfterAnyList.
+use Rattle.ledger.proofs.Laws.AfterAnyList.{ledger-holds}
 use Rattle.ledger.proofs.any_list.Goals as goal
 
 pub returns : goal.returns
-returns c = demand-3
+returns c = ledger-holds

@@ -4,12 +4,16 @@ use Rattle.endian.specs.Bytes.{put}
 use Rattle.refusal.specs.declared.Refusal.{Refusal}
 use Rattle.refusal.specs.declared.Refusal.TheVariants.{LimitOrMemory}
 use Rattle.space.specs.Used.{total_size}
-use Rattle.opened.specs.Inner.Disc.{Disc, free_of}
+use Rattle.opened.specs.Opening.{Disc, free_of}
 use Rattle.listing.specs.Lines.{totals_line, entry_lines, region_lines}
 
 -- how long it is, if there is room for it
 abbrev pub size_or : ℕ → List ℕ → Option ℕ
 size_or room bs = if nat_lt room (length bs) then None else Some (length bs)
+
+-- how long it is, or 0
+abbrev pub size_or_zero : ℕ → List ℕ → ℕ
+size_or_zero room bs = if nat_lt room (length bs) then 0 else length bs
 
 -- how long it is, or 9
 abbrev pub listed_or : ℕ → List ℕ → Result ℕ Refusal
@@ -19,9 +23,10 @@ listed_or room bs = if nat_lt room (length bs) then Err LimitOrMemory else Ok (l
 abbrev pub laid_or : List ℕ → List ℕ → List ℕ
 laid_or text bs = if nat_lt (length text) (length bs) then text else put text 0 bs
 
--- the length that is given, and the buffer afterwards
-abbrev pub Laid : List ℕ → List ℕ → Option ℕ → List ℕ → Type 0
-Laid text text' size bs = (size ≡ size_or (length text) bs) × (text' ≡ laid_or text bs)
+-- bs laid in front of a buffer, if there is room for it: the length that is given, and the buffer afterwards
+pub record IsLaid (text text' : List ℕ) (size : Option ℕ) (bs : List ℕ) : Type 0 where
+  pub size_is : size ≡ size_or (length text) bs
+  pub text_after : text' ≡ laid_or text bs
 
 -- the lines of a disc
 unfoldable pub text_of : Disc → List ℕ

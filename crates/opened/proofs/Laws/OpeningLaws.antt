@@ -108,7 +108,7 @@ opens image words bytes e =
       layout = not-false (disjoint_below (disc_end image) (used_in image)) (refuse-passed (not (disjoint_below (disc_end image) (used_in image))) OverlappingRegions (Ok tt) q.1).0;
     }
 
--- "table end + file sizes + free bytes = disc end", and the program where it lies past the table, on every image that opens
+-- table end, files, program and free bytes fill the disc, on every image that opens
 pub disc-filled : (image : List ℕ) (words : ℕ) → AllBytes image → opening image words ≡ Ok tt → used_of image + free_bytes (disc_end image) (used_in image) ≡ disc_end image
 unfolding used_of used_in
 disc-filled image words bytes e = used-and-free (table_end image) (disc_end image) (behind_table image) (opens image words bytes e).layout

@@ -24,7 +24,7 @@ use Rattle.opened.specs.Opening.{nodes_in, region_of, behind_table, used_in, lay
 use Rattle.opened.specs.Inner.Prepared.{verdict_before24, OpenImage}
 use Rattle.opened.proofs.Laws.OpeningLaws.{opens, opening-split}
 
--- "wholly between 0x440 and the FST offset .. or wholly from the table end on", and it does not pass the disc end
+-- before the table or behind it, and within the disc end
 abbrev pub WellPlaced : List ℕ → DiscRegion → Type 0
 WellPlaced image r = ((0x440 ≤ r.offset) × (end_of r ≤ fst_offset image)) ⊎ ((table_end image ≤ r.offset) × (end_of r ≤ disc_end image))
 
@@ -60,7 +60,7 @@ module _ (image : List ℕ) (words : ℕ) (bytes : AllBytes image) (some : dol_o
       (or_cases (eqb r.size 0) (leb (table_end image) r.offset && leb (end_of r) (disc_end image)) (rw q at (own-within o))))
       (own-cases (fst_offset image) r)
 
-  -- LAW: "otherwise .. 14", once the tests before it passed
+  -- LAW: anywhere else it is 14, once the tests before it passed
   pub program-elsewhere : verdict_before24 image words ≡ Ok tt → program_verdict (program_of image) ≡ Ok tt → (WellPlaced image (program_in image) → ⊥) → opening image words ≡ Err OverlappingRegions
   unfolding layout_verdict
   program-elsewhere b p n = opening-split image words ∙ rw (b, p) (go (disjoint_below (disc_end image) (used_in image)) refl)

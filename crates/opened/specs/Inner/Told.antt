@@ -1,10 +1,10 @@
 -- What an open disc tells of itself. Assumes nothing: this is a definition.
 use Rattle.std.specs.Prelude.{length}
 use Rattle.space.specs.Used.{total_size}
-use Rattle.opened.specs.Inner.Disc as opened
+use Rattle.opened.specs.Opening as opened
 use Rattle.opened.specs.declared.summary.Disc.{Disc}
 
--- `disc_of`, of the disc that an image means
+-- `summary_of`, of the disc that an image means
 abbrev pub told_of : opened.Disc → Disc
 told_of d = record {
   fst_offset = d.start;

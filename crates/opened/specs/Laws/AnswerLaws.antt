@@ -5,9 +5,9 @@ use Rattle.std.specs.Prelude.{◌≡◌}
 use Rattle.std.proofs.Common.{◌∙◌}
 use Rattle.refusal.specs.declared.Refusal.{Refusal}
 use Rattle.opened.specs.Opening.{opening}
-use Rattle.opened.specs.Inner.Disc.{Disc, Means, OpensAs}
+use Rattle.opened.specs.Inner.Disc.{Opened, Means, OpensAs}
 use Rattle.opened.specs.Laws.Meant.{start_meant, room_meant, end_meant, entries_meant, total_meant}
-use Rattle.opened.specs.Answers.{behind, disc_of}
+use Rattle.opened.specs.Answers.{behind, summary_of}
 use Rattle.opened.specs.Inner.Told.{told_of}
 
 pub behind-passed : {A : Type 0} (v : Verdict) (f : Refusal → A) (a : A) → v ≡ Ok tt → a ≡ behind v f a
@@ -18,7 +18,7 @@ behind-refused v f a c e = rw e
 
 -- ---- what an opened disc is asked
 
-module _ (image : List ℕ) (words : ℕ) (r : Result Disc Refusal) (h : OpensAs image words r) (d : Disc) (e : r ≡ Ok d) where
+module _ (image : List ℕ) (words : ℕ) (r : Result Opened Refusal) (h : OpensAs image words r) (d : Opened) (e : r ≡ Ok d) where
   opened-disc : Means image d × (d.words ≡ words)
   opened-disc = let o : OpensAs image words (Ok d) = rw e at h in o
 
@@ -28,15 +28,15 @@ module _ (image : List ℕ) (words : ℕ) (r : Result Disc Refusal) (h : OpensAs
   pub opened_passes : opening image words ≡ Ok tt
   opened_passes = rw opened-disc.1 at opened-disc.0.known.passed
 
-module _ {A : Type 0} (f : Refusal → A) (a : A) (image : List ℕ) (words : ℕ) (r : Result Disc Refusal) (h : OpensAs image words r) where
+module _ {A : Type 0} (f : Refusal → A) (a : A) (image : List ℕ) (words : ℕ) (r : Result Opened Refusal) (h : OpensAs image words r) where
   -- what it answers is the image's answer behind opening's tests
-  pub asked : (d : Disc) → r ≡ Ok d → (b : A) → (Means image d → b ≡ a) → b ≡ behind (opening image words) f a
+  pub asked : (d : Opened) → r ≡ Ok d → (b : A) → (Means image d → b ≡ a) → b ≡ behind (opening image words) f a
   asked d e b g = g (opened_means image words r h d e) ∙ behind-passed (opening image words) f a (opened_passes image words r h d e)
 
   pub not_asked : (c : Refusal) → r ≡ Err c → f c ≡ behind (opening image words) f a
   not_asked c e = let o : OpensAs image words (Err c) = rw e at h in behind-refused (opening image words) f a c o
 
 -- what it tells of itself
-pub told_meant : (image : List ℕ) (d : Disc) → Means image d → told_of d ≡ disc_of image
+pub told_meant : (image : List ℕ) (d : Opened) → Means image d → told_of d.disc ≡ summary_of image
 told_meant image d m =
     rw (start_meant image d m, room_meant image d m, end_meant image d m, entries_meant image d m, total_meant image d m)

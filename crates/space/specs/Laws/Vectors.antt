@@ -1,5 +1,5 @@
--- The small master of document 01: its used total and free regions, P1 to P3, P5; and the cases in which a search or a count goes wrong most easily.
--- Assumes nothing.
+-- The small master: its used total and free regions, P1 to P3, P5; and the cases in which a search or a count
+-- goes wrong most easily. Assumes nothing.
 use Rattle.std.specs.Prelude.{ℕ, ◌≡◌, refl, List, [], ◌∷◌, Ok, Err}
 use Rattle.space.specs.declared.region.DiscRegion.{DiscRegion}
 use Rattle.refusal.specs.declared.Refusal.TheVariants.{OverlappingRegions, NotEnoughSpace, InvalidAlignment}

@@ -9,7 +9,7 @@ use Rattle.table_writing.specs.Inner.Valid.{name_size}
 abbrev pub after_in : List ℕ → ℕ → ℕ
 after_in tab k = if kind tab k == 1 then size_or_next tab k else k + 1
 
--- "offset or parent": a file keeps its offset, a directory gets the parent that it is nested in
+-- the second word: a file keeps its offset, a directory gets the parent that it is nested in
 abbrev pub place_of : List ℕ → ℕ → ℕ → ℕ
 place_of tab parent k = if kind tab k == 0 then offset_or_parent tab k else parent
 
@@ -38,7 +38,7 @@ text_to tab n a b text = text_flat tab n (b - a) a text
 abbrev pub write_to : List ℕ → ℕ → ℕ → ℕ → ℕ → List ℕ → List ℕ
 write_to tab n a b text out = write_flat tab n (b - a) a text out
 
--- "root name and parent 0"
+-- the root has neither name nor parent: both are 0
 unfoldable pub root_at : ℕ → List ℕ → List ℕ
 root_at n out = put out 0 (node_bytes 0 0 (directory [] n))
 

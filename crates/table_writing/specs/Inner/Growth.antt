@@ -30,7 +30,7 @@ pub record IsDirectory (nodes : List Node) (p : ℕ) : Type 0 where
 abbrev pub added : List Node → Bool → ℕ → List ℕ → List Node
 added nodes d p nm = insert_at p (new_node d nm (next_of (slice_index_or nodes p none))) nodes
 
--- a new child of a directory of that depth is not too deep: "directory deeper than 64 (root 0; 9)"
+-- a new child of a directory of that depth is not too deep: a directory may be 64 deep, the root is 0
 abbrev pub depth_allows : Bool → ℕ → Bool
 depth_allows true depth = nat_lt depth 64
 depth_allows false depth = true

@@ -1,6 +1,5 @@
--- The size of a table as it will be written, no name shared: its length, which is 12 for the root, and for each further
--- entry 12, its name and one (the law is `Size` of tree), or 9, since its texts are over 1,048,576 bytes.
--- Assumes nothing: these are definitions.
+-- The size of a table as it will be written, no name shared (the law is `Size` of tree), or 9 where its texts
+-- are over 1,048,576 bytes. Assumes nothing: these are definitions.
 use Rattle.std.specs.Prelude.{ℕ, length, Result, Ok, Err, if◌then◌else◌, nat_lt}
 use mathlib.Core.List.{List, tail}
 use Rattle.tree.specs.Table.{nodes_of, texts_of, encode}

@@ -1,5 +1,5 @@
--- Tables measured: "12 for the root, and for each further entry 12, its name and one", by computing; and at the limit of the texts.
--- Assumes nothing.
+-- Tables measured, by computing: 12 bytes for the root, and for each further entry 13 and its name; and at
+-- the limit of the texts. Assumes nothing.
 use Rattle.std.specs.Prelude.{Ok, Err, ◌+◌, ◌*◌, ◌<◌, ◌^◌, ◌≡◌, refl, length, set, take}
 use mathlib.Core.List.{List, tail}
 use Rattle.std.proofs.Common.{arith}
@@ -24,7 +24,7 @@ sizes :
 unfolding measure_of nodes_of nodes_from node_at name_at count be24 be32 encode entries_bytes texts_of parent_of parent_below
 sizes = (refl, refl, refl, refl, refl)
 
--- "texts over 1,048,576 bytes (9)": so many are measured, and one byte more is past the limit
+-- so many bytes of texts are measured, and one byte more is past the limit
 module _ (nodes : List Node) (w : IsWellFormed nodes) (few : length nodes < 2 ^ 32) where
   at-limit : length (texts_of (tail nodes)) ≡ 1048576 → measure_of (encode nodes) ≡ Ok (12 * length nodes + 1048576)
   unfolding measure_of

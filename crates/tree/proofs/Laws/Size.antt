@@ -1,5 +1,4 @@
--- The size of a written table (document 02: "12 for the root, and for each further entry 12, its name and one"): entry by entry, and with one
--- entry more. Assumes nothing.
+-- The size of a written table, entry by entry, and with one entry more. Assumes nothing.
 use Rattle.std.specs.Prelude.{ℕ, suc, ◌+◌, ◌-◌, ◌*◌, ◌<◌, ◌≡◌, length, get_or, take, drop}
 use Rattle.std.proofs.Common.{sym, ap, ◌∙◌, arith, length-append, take-append-drop}
 use mathlib.Core.List.{List, ◌∷◌, ◌++◌, tail}

@@ -1,5 +1,5 @@
--- Document 01's rules are a special case of 02's: in a text without lead bytes each byte is a unit, so names are judged and paths are cut byte by
--- byte; and below 0x80 a name has the bytes that it had. Assumes nothing.
+-- In a text without lead bytes each byte is a unit, so names are judged and paths are cut byte by byte; and
+-- below 0x80 a name's bytes are 0x20 to 0x7E. Assumes nothing.
 use Rattle.std.specs.Prelude.{ℕ, ◌≡◌, refl, Bool, true, false, cond, not, ◌&&◌, ◌||◌, List, [], ◌∷◌, map}
 use Rattle.std.proofs.Common.{ap, ◌∙◌, arith}
 use Rattle.std.proofs.lemmas.Bool.{not-true}
@@ -34,7 +34,7 @@ pub safe-leadless : (a : ℕ) (nm : List ℕ) → leadless (a ∷ nm) ≡ true �
 unfolding safe
 safe-leadless a nm e = rw (each-single (a ∷ nm) e, list_all-single safe_unit (a ∷ nm))
 
--- ---- "the path is cut at `/` and `\`", byte by byte
+-- ---- a path, byte by byte
 
 abbrev before : ℕ → List (List ℕ) → List (List ℕ)
 before b [] = (b ∷ []) ∷ []
@@ -78,6 +78,6 @@ below_plain (b ∷ s) e =
     or-none true = refl
     or-none false = refl
 
--- LAW: "one or more bytes 0x20 to 0x7E"
+-- LAW: below 0x80, the bytes 0x20 to 0x7E
 pub plain-below : (nm : List ℕ) → list_all (within 0 0x7F) nm ≡ true → plain nm ≡ list_all (within 0x20 0x7E) nm
 plain-below nm e = plain-leadless nm (below-leadless nm e) ∙ below_plain nm e

@@ -16,7 +16,7 @@ first-assoc : (a b c : Verdict) → first a (first b c) ≡ first (first a b) c
 first-assoc (Ok _) b c = refl
 first-assoc (Err r) b c = refl
 
--- ---- "each further entry in turn (5, 6)"
+-- ---- the entries, each in turn: 5, 6
 
 entries-step : (tab : List ℕ) (k n : ℕ) → k < n → entries_verdict tab k (n - k) ≡ first (entry_verdict tab k) (entries_verdict tab (k + 1) (n - (k + 1)))
 unfolding entries_verdict
@@ -38,7 +38,7 @@ pub entries-go : (tab : List ℕ) (k n : ℕ) (v : Verdict) → k < n → v ≡ 
     entries_verdict tab k (n - k) ≡ entries_verdict tab (k + 1) (n - (k + 1))
 entries-go tab k n v h q z = entries-step tab k n h ∙ rw (← q) (first-go v _ z)
 
--- ---- "Then the walk, per entry 11, 12, 13, 10, directory deeper than 64"
+-- ---- the walk, of each entry: 11, 12, 13, 10, and 9 for the depth
 
 -- all tests of entry k, which reads as x
 abbrev pub walk_entry : List ℕ → ℕ → List ℕ → ℕ → Node → Verdict

@@ -11,7 +11,7 @@ use Rattle.tree.specs.Lookup.{components_of, components, first_child, child_of, 
 use Rattle.tree.specs.Insert.{empty_file, bump, splice, insert_at, shifted}
 use Rattle.tree.specs.Inner.Patch.{records, record_before, record_after, patched_record, new_start, insert_patch}
 
--- ---- "A small master": `01000000 00000000 00000002 00000000 00000500 00000100 6100`
+-- ---- the small master: the root and the file `a`, and the texts
 
 abbrev pub master : List ℕ
 master = 1 ∷ 0 ∷ 0 ∷ 0 ∷ 0 ∷ 0 ∷ 0 ∷ 0 ∷ 0 ∷ 0 ∷ 0 ∷ 2 ∷ 0 ∷ 0 ∷ 0 ∷ 0 ∷ 0 ∷ 0 ∷ 5 ∷ 0 ∷ 0 ∷ 0 ∷ 1 ∷ 0 ∷ 0x61 ∷ 0 ∷ []

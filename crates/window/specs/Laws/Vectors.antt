@@ -1,5 +1,5 @@
--- Document 01's P12 and the boundaries 0, 2^63 and 2^64 - 1, by computing. The window is that of the file `a` of the small master, 0x100
--- bytes at 0x500, or one that starts at 0. `negsuc n` is the distance -(n + 1). Assumes nothing.
+-- P12 and the boundaries 0, 2^63 and 2^64 - 1, by computing. The window is that of the file `a` of the small master,
+-- 0x100 bytes at 0x500, or one that starts at 0. `negsuc n` is the distance -(n + 1). Assumes nothing.
 use Rattle.std.specs.Prelude.{◌≡◌, ℕ, ◌+◌, ◌-◌, ◌^◌, [], ◌∷◌, pos, negsuc, refl, Ok, Err}
 use Rattle.endian.specs.Bytes.{put}
 use Rattle.refusal.specs.declared.Refusal.TheVariants.{InvalidSeek}
@@ -11,7 +11,7 @@ use Rattle.window.specs.Window.{seek_of, read_of, buffer_of}
 abbrev pub window_of_a : ℕ → Window
 window_of_a p = record { start = 0x500; len = 0x100; position = p }
 
--- P12: "window of `a`, current -1 from 0: 23"
+-- P12
 pub p12 : (seek_of (window_of_a 0) (Current (negsuc 0)) ≡ Err InvalidSeek) × (number_of InvalidSeek ≡ 23)
 p12 = (refl, refl)
 

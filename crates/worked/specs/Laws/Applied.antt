@@ -11,31 +11,30 @@ use Rattle.refusal.specs.Laws.Tests.{and_left, and_right}
 use Rattle.header.specs.Verdicts.{dol_offset, fst_size, fst_max_size}
 use Rattle.tree.specs.Table.{file, directory, none, count, name_at, node_at, nodes_from, nodes_of, parent_below, parent_of, entries_bytes, texts_of, encode}
 use Rattle.tree.specs.Insert.{shifted, bump, splice, insert_at, set_place}
-use Rattle.space.specs.Used.{inside, nonempty, total_size}
+use Rattle.space.specs.Used.{inside, nonempty, total_size, no_region}
 use Rattle.space.specs.Free.{largest_size}
 use Rattle.space.specs.Listing.{rows_of}
 use Rattle.window.specs.Window.{new_window, count_of}
 use Rattle.space.specs.declared.totals.Totals.{Totals}
 use Rattle.executable.specs.Program.{program_in, own_region}
-use Rattle.opened.specs.Opening.{table_of, nodes_in, used_in, free_space_of, used_of, opening}
+use Rattle.opened.specs.Opening.{table_of, nodes_in, used_in, free_space_of, used_of, opening, disc_of}
 use Rattle.disc.specs.Calls.{totals_answer, program_answer, free_regions_answer, free_regions_list, totals_of, record_answer}
 use Rattle.disc.specs.Files.{open_file_answer}
 use Rattle.edits.specs.Change.{nothing}
-use Rattle.edits.specs.Edits.{Edit, no_place, rewrite, resize_file, plan_resize, plan_of, image_after}
-use Rattle.edits.proofs.Laws.Accepted.{accepted}
+use Rattle.edits.specs.Edits.{Edit, rewrite, resize_file, plan_resize, plan_of, image_after}
 use Rattle.ledger.specs.Ledger.{History, Ledger, bare, files_before, history_of, put_in, first_ledger}
 use Rattle.ledger.specs.Runs.{Call, image_after_all, accepted_in, AllWithin}
 use Rattle.ledger.specs.Spared.{number_after, Spared}
 use Rattle.ledger.specs.Theorem.{LedgerHolds, StillThere, ShowsClip, Tells, WithinMaximum}
 use Rattle.ledger.proofs.Laws.AnyMaximum.{any-maximum}
-use Rattle.ledger.proofs.Laws.Demand3.{demand-3, unnamed-stays}
+use Rattle.ledger.proofs.Laws.AfterAnyList.{ledger-holds, unnamed-stays}
 use Rattle.ledger.proofs.Laws.EditedDown.{edited-down}
 use Rattle.ledger.proofs.Laws.FillReads.{read_into, fill-reads, read_back}
 use Rattle.ledger.proofs.Laws.MaximumKept.{maximum-kept}
 use Rattle.ledger.proofs.Laws.RecordTells.{record-tells}
 use Rattle.worked.specs.Image.{master, master_words}
 use Rattle.worked.specs.Laws.Marked as small
-use Rattle.worked.specs.Laws.Maximum.{stating, slack}
+use Rattle.worked.specs.Laws.Maximum.{stating, slack, slack-opens, slack-header}
 use Rattle.worked.specs.Laws.Maximum as stated
 use Rattle.worked.specs.Laws.ListImages.{of_a, program_bytes, first, clip, with_b, last, program, tree_b, used-regions, space, at_first, at_last}
 use Rattle.worked.specs.Laws.ListSteps.{totals, fresh, filled-b}
@@ -75,7 +74,7 @@ spared : Spared reports (first_ledger first) 0
 unfolding files_before put_in insert_at splice bump set_place shifted
 spared = rw at_first.tree (λ e. refl, (λ e. refl, (λ e. absurd (false≢true e), (λ e. refl, (λ e. refl, (λ e. refl, (λ e. refl, tt)))))))
 
--- ---- demand 3
+-- ---- what holds after the list
 
 -- what the claim comes to for the file with entry number k, whichever that is
 any_file : {w : ℕ} {first image : List ℕ} {l : Ledger} → LedgerHolds w first image l →
@@ -85,13 +84,13 @@ any_file : {w : ℕ} {first image : List ℕ} {l : Ledger} → LedgerHolds w fir
 any_file d k nm offset size e h is = let f = d.files k nm offset size e in (rw is at f.m-size, rw is at f.m-bytes, rw is at f.first-bytes, rw is at f.unnamed)
 
 claim : (w : ℕ) → master_words ≤ w → LedgerHolds w first last ledger
-claim w h = rw (worked.image, worked.told, worked.entered) at (demand-3 first master_words w list bytes at_first.opens h (within w h))
+claim w h = rw (worked.image, worked.told, worked.entered) at (ledger-holds first master_words w list bytes at_first.opens h (within w h))
 
-pub record Demanded (w : ℕ) : Type 0 where
+pub record LastHolds (w : ℕ) : Type 0 where
   pub opens : opening last w ≡ Ok tt
   pub tree : map bare (nodes_in last) ≡ directory [] 3 ∷ file (0x61 ∷ []) 0 0x100 ∷ file (0x62 ∷ []) 0 5 ∷ []
   -- byte 0x500 is `a`'s, the third used region's, and no other's
-  pub apart : (j : ℕ) → inside (get_or (used_in last) j no_place) 0x500 ≡ true → j ≡ 2
+  pub apart : (j : ℕ) → inside (get_or (used_in last) j no_region) 0x500 ≡ true → j ≡ 2
   pub sum : total_size (free_space_of last) ≡ 6543
   pub used : totals_answer last w ≡ Ok (record { disc_end = 8192; used = 1649 })
   pub free : free_regions_answer last w 8 ≡ Ok 4
@@ -106,15 +105,15 @@ first-program : (dol_offset first ≡ 0x700) × (span first 0x700 0x104 ≡ prog
 unfolding first stating master put be32
 first-program = (refl, refl)
 
-pub demanded : (w : ℕ) → master_words ≤ w → Demanded w
+pub last-holds : (w : ℕ) → master_words ≤ w → LastHolds w
 unfolding put rows_of nonempty program_in own_region total_size files_before
-demanded w h =
+last-holds w h =
     let d = claim w h in
     record {
       opens = d.opens;
       tree = d.tree;
       apart = λ j i. d.apart j 2 0x500 i (rw (used-regions at_last));
-      sum = let s = rw (at_last.tree, at_last.runs, at_last.header.0, at_last.header.1, at_last.header.3) at d.sum in omega (arith, s);
+      sum = let s = rw (at_last.tree, at_last.runs, at_last.header.0, at_last.header.1) at d.sum in omega (arith, s, at_last.header.3);
       used = d.used-reported ∙ rw (at_last.tree, at_last.runs, at_last.header.0, at_last.header.1, at_last.header.3);
       free = d.free-reported 8 ∙ rw (space at_last);
       listed = d.free-listed (replicate 9 7) ∙ rw (space at_last);
@@ -203,7 +202,7 @@ over-sizes : (fst_max_size over ≡ 0x19) × (fst_size over ≡ 0x1A)
 unfolding stating master put be32
 over-sizes = (refl, refl)
 
-over-plan : plan_of (resize_file 1 0x100) over ≡ nothing
+over-plan : plan_of (resize_file 1 0x100) (disc_of over) ≡ nothing
 unfolding plan_resize stating master put table_of nodes_in nodes_of nodes_from node_at name_at count be24 be32
 over-plan = refl
 
@@ -217,18 +216,11 @@ over-kept = rw over_last at (maximum-kept over master_words master_words over_li
 pub same-table : (fst_size (image_after_all over_list over) ≡ 0x1A) × (table_of (image_after_all over_list over) ≡ table_of over)
 same-table = let l = over-kept.larger (rw over-sizes.0 (omega arith)) (rw (over-sizes.0, over-sizes.1) (omega arith)) in rw over_last (l.0 ∙ over-sizes.1, l.1)
 
--- "may be edited down to the maximum": the small master with a zero byte more behind its texts, 0x1B bytes in all
-
-down-opens : opening (slack 0x1A) master_words ≡ Ok tt
-down-opens = (accepted rewrite small.fresh (slack 0x1A) master_words 0x1A (stated.maximum).edited-down).opens
+-- ---- a table above the maximum edited down to it: the small master with a zero byte more behind its texts, 0x1B bytes in all
 
 down-bytes : AllBytes (slack 0x1A)
 unfolding slack stating master put bytes_only
 down-bytes = bytes-only (slack 0x1A) refl
-
-down-sizes : (fst_max_size (slack 0x1A) ≡ 0x1A) × (fst_size (slack 0x1A) ≡ 0x1B)
-unfolding slack stating master put be32
-down-sizes = (refl, refl)
 
 down-table : length (encode (nodes_in (slack 0x1A))) ≡ 0x1A
 unfolding slack stating master put table_of nodes_in nodes_of nodes_from node_at name_at count be24 be32 encode entries_bytes texts_of parent_of parent_below
@@ -236,8 +228,8 @@ down-table = refl
 
 pub down : fst_size (image_after rewrite (totals_of (slack 0x1A) 0) (slack 0x1A) master_words 0x1A) ≤ 0x1A
 down =
-    let m = down-sizes.0 in
-    rw m at (edited-down (slack 0x1A) master_words 0x1A down-bytes down-opens (rw (m, down-sizes.1) (omega arith)) (rw (m, down-table) (omega arith)) (rw down-table (omega arith)) 0 (omega arith)).2
+    let m = slack-header.2 in
+    rw m at (edited-down (slack 0x1A) master_words 0x1A down-bytes slack-opens (rw (m, slack-header.1) (omega arith)) (rw (m, down-table) (omega arith)) (rw down-table (omega arith)) 0 (omega arith)).2
 
 -- another maximum: the image opens all the same, to the same tree and free regions
 

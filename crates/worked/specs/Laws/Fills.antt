@@ -1,5 +1,5 @@
--- Worked fills (document 02, Point 4), by computing, on the images of Worked: a clip of the file's size, a shorter one, none, longer ones, and
--- the refusals. Assumes nothing.
+-- Worked fills, by computing, on the images of Worked: a clip of the file's size, a shorter one, none, longer
+-- ones, and the refusals. Assumes nothing.
 use Rattle.std.specs.Prelude.{Ok, Err}
 use Rattle.std.specs.Prelude.{ℕ, ◌<◌, ◌≡◌, refl, List, [], ◌∷◌, ◌++◌, length, replicate}
 use Rattle.std.proofs.Common.{ap, ◌∙◌, lt-ltb}
@@ -19,8 +19,8 @@ use Rattle.space.specs.MaxRegionSize.{beside_free, max_size_from}
 use Rattle.space.specs.Allocate.{better_of, largest, powers, allocation_of}
 use Rattle.space.specs.Totals.{totals_verdict}
 use Rattle.executable.specs.Program.{program_of, program_in, own_region}
-use Rattle.opened.specs.Opening.{table_of, nodes_in, opening, free_space_of, used_of, used_in, behind_table, layout_verdict}
-use Rattle.edits.specs.Change.{with_table, written, table_verdict_in, place_verdict_in}
+use Rattle.opened.specs.Opening.{table_of, nodes_in, opening, used_of, used_in, behind_table, layout_verdict}
+use Rattle.edits.specs.Change.{with_table, written, table_verdict, place_verdict}
 use Rattle.edits.specs.Edits.{fill_file, plan_resize, plan_fill, counted_verdict, verdict_of, image_after}
 use Rattle.disc.specs.Calls.{totals_of}
 use Rattle.worked.specs.Laws.Worked.{verdict_on, after, small, large, of_b, large-opens, large-nodes, large-free, large-used, large-header, grown}
@@ -55,7 +55,7 @@ pub record Fills : Type 0 where
   pub refused : (verdict_on (fill_file 3 three) small ≡ Err NoSuchEntry) × (verdict_on (fill_file 0 three) small ≡ Err ExpectedFile)
 
 pub fills : Fills
-unfolding small plan_resize plan_fill put opening layout_verdict header_verdict fields_verdict field_verdict fields bounds_verdict table_of check nodes_in nodes_of nodes_from node_at name_at count entries_verdict entry_verdict unended walk name_verdict next_verdict shut plain safe be24 be32 used_in behind_table program_of program_in own_region nonempty disjoint_below pairwise_disjoint disjoint_from_all disjoint end_by free_space_of free_regions runs uses_byte used_of total_size totals_verdict image_after verdict_of counted_verdict table_verdict_in place_verdict_in limits shallow shallow_from texts_of encode entries_bytes parent_of parent_below set_place written with_table max_size_from beside_free allocation_of powers largest better_of align_up units
+unfolding small plan_resize plan_fill put opening layout_verdict header_verdict fields_verdict field_verdict fields bounds_verdict table_of check nodes_in nodes_of nodes_from node_at name_at count entries_verdict entry_verdict unended walk name_verdict next_verdict shut plain safe be24 be32 used_in behind_table program_of program_in own_region nonempty disjoint_below pairwise_disjoint disjoint_from_all disjoint end_by free_regions runs uses_byte used_of total_size totals_verdict image_after verdict_of counted_verdict table_verdict place_verdict limits shallow shallow_from texts_of encode entries_bytes parent_of parent_below set_place written with_table max_size_from beside_free allocation_of powers largest better_of align_up units
 fills = record {
   same = (refl, refl);
   shorter = (refl, refl);
@@ -74,7 +74,7 @@ unfolding large put table_of nodes_in nodes_of nodes_from node_at name_at count 
 moved-used = refl
 
 moves : verdict_on (fill_file 1 twelve) large ≡ Ok tt
-unfolding verdict_of counted_verdict totals_verdict plan_fill plan_resize max_size_from beside_free allocation_of powers largest better_of align_up table_verdict_in place_verdict_in limits shallow shallow_from shut texts_of encode entries_bytes parent_of parent_below set_place
+unfolding verdict_of counted_verdict totals_verdict plan_fill plan_resize max_size_from beside_free allocation_of powers largest better_of align_up table_verdict place_verdict limits shallow shallow_from shut texts_of encode entries_bytes parent_of parent_below set_place
 moves = rw (large-opens, large-nodes, large-free, large-header.2, large-header.0, large-header.1, large-free, large-used, moved-used)
 
 moved-is : after (fill_file 1 twelve) large ≡ put grown 0x8000 twelve

@@ -76,7 +76,6 @@ module _ {image : List ℕ} {nodes : List Node} {free : List DiscRegion} {size u
   used-regions = rw (r.runs, r.tree, r.header.0, r.header.1)
 
   pub space : free_space_of image ≡ free
-  unfolding free_space_of
   space = rw (used-regions, r.header.3) r.gaps
 
   pub total : used_of image ≡ used

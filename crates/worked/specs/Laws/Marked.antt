@@ -1,5 +1,5 @@
--- "Marked P": P1 to P12 of document 01, and the numbers of its listing, about the definitions that the calls' promises cite: by computing.
--- Assumes nothing.
+-- RULES, Worked examples, and the numbers of the small master's listing, about the definitions that the
+-- calls' promises cite: by computing. Assumes nothing.
 use Rattle.std.specs.Prelude.{None, Ok, Err}
 use Rattle.refusal.specs.Refusal.{Verdict}
 use Rattle.std.specs.Prelude.{ℕ, ◌+◌, ◌-◌, ◌≡◌, refl, List, [], ◌∷◌, negsuc}
@@ -33,7 +33,7 @@ use Rattle.opened.specs.Opening.{table_of, nodes_in, opening, free_space_of, use
 use Rattle.disc.specs.Files.{entry_answer, lookup_answer, max_file_size_answer, open_file_answer}
 use Rattle.disc.specs.Calls.{totals_answer, free_answer, free_list, free_regions_answer, free_regions_list, free_clusters_answer, free_clusters_list, allocate_answer}
 use Rattle.opened.specs.Answers.{max_region_size_answer}
-use Rattle.edits.specs.Change.{with_table, written, table_verdict_in, place_verdict_in}
+use Rattle.edits.specs.Change.{with_table, written, table_verdict, place_verdict}
 use Rattle.edits.specs.Edits.{Edit, move_file, resize_file, plan_move, plan_resize, counted_verdict, verdict_of, image_after}
 use Rattle.worked.specs.Image.{master, master_words, master_bytes}
 
@@ -47,7 +47,7 @@ pub nodes : nodes_in master ≡ directory [] 2 ∷ file (0x61 ∷ []) 0x500 0x10
 unfolding master put table_of nodes_in nodes_of nodes_from node_at name_at count be24 be32
 nodes = refl
 
--- "DOL offset 0": there is no program
+-- the DOL offset is 0, so there is no program
 pub no_program : program_of master ≡ Ok None
 unfolding master put be32 program_of
 no_program = refl
@@ -61,7 +61,7 @@ abbrev pub at : ℕ → ℕ → DiscRegion
 at o n = record { offset = o; size = n }
 
 pub free : free_space_of master ≡ at 1114 166 ∷ at 1536 6656 ∷ []
-unfolding master put table_of nodes_in nodes_of nodes_from node_at name_at count be24 be32 free_space_of used_in behind_table program_of program_in own_region free_regions runs uses_byte nonempty
+unfolding master put table_of nodes_in nodes_of nodes_from node_at name_at count be24 be32 used_in behind_table program_of program_in own_region free_regions runs uses_byte nonempty
 free = refl
 
 pub used : used_of master ≡ 1370
@@ -98,7 +98,7 @@ unfolding master put opening layout_verdict header_verdict fields_verdict field_
 moved-opens = refl
 
 pub moved-free : free_space_of (moved_a 0x600) ≡ at 0x45A 0x1A6 ∷ at 0x700 0x1900 ∷ []
-unfolding master put table_of nodes_in nodes_of nodes_from node_at name_at count be24 be32 texts_of encode entries_bytes parent_of parent_below written with_table free_space_of used_in behind_table program_of program_in own_region free_regions runs uses_byte nonempty
+unfolding master put table_of nodes_in nodes_of nodes_from node_at name_at count be24 be32 texts_of encode entries_bytes parent_of parent_below written with_table used_in behind_table program_of program_in own_region free_regions runs uses_byte nonempty
 moved-free = refl
 
 resized-used : used_of (resized_a 0x1B00) ≡ 8026
@@ -129,7 +129,7 @@ abbrev four : List ℕ
 four = 0 ∷ 0 ∷ 0 ∷ 0 ∷ []
 
 moves : on_master (move_file 1 0x600) ≡ Ok tt
-unfolding verdict_of counted_verdict totals_verdict plan_move max_size_from beside_free table_verdict_in place_verdict_in limits shallow shallow_from shut texts_of encode entries_bytes parent_of parent_below set_place
+unfolding verdict_of counted_verdict totals_verdict plan_move max_size_from beside_free table_verdict place_verdict limits shallow shallow_from shut texts_of encode entries_bytes parent_of parent_below set_place
 moves = rw (opens, nodes, free, header.3, header.0, header.1, free, used, moved-used)
 
 moved-is : moved_to 0x600 ≡ moved_a 0x600
@@ -140,36 +140,36 @@ moved : free_regions_list (moved_to 0x600) master_words four ≡ 0x45A ∷ 0x1A6
 unfolding free_list rows_of put
 moved = rw (moved-is, moved-opens, moved-free)
 
--- ---- the table, in the paper's order; `a` is entry 1. A refusal stands with its number
+-- ---- P1 to P12; `a` is entry 1. A refusal stands with its number
 
 pub record Marked : Type 0 where
-  -- "(P1) largest size of `a` 0x1B00"
+  -- the largest size of `a`
   pub P1 : max_file_size_answer master master_words 1 ≡ Ok 0x1B00
-  -- "(P2) allocate 0x100 at 0x100 gives 0x600, 0x1A00"
+  -- a place for 0x100 bytes at alignment 0x100
   pub P2 : allocate_answer master master_words 0x100 0x100 ≡ Ok (at 0x600 0x1A00)
-  -- "(P3) 0x1A01 at 1 gives 21"
+  -- one byte more than is free together, at alignment 1
   pub P3 : (allocate_answer master master_words 0x1A01 1 ≡ Err NotEnoughSpace) × (number_of NotEnoughSpace ≡ 21)
-  -- "(P4) `a` to 0x580: 20"
+  -- `a` moved over its own old place
   pub P4 : (on_master (move_file 1 0x580) ≡ Err OverlappingMove) × (number_of OverlappingMove ≡ 20)
-  -- "(P5) to 0x600: free 0x45A, 0x1A6 and 0x700, 0x1900"
+  -- `a` moved to 0x600: what is free then
   pub P5 : (on_master (move_file 1 0x600) ≡ Ok tt) × (free_regions_list (moved_to 0x600) master_words four ≡ 0x45A ∷ 0x1A6 ∷ 0x700 ∷ 0x1900 ∷ [])
-  -- "(P6) to 0x400: 21"
+  -- `a` moved into the header
   pub P6 : (on_master (move_file 1 0x400) ≡ Err NotEnoughSpace) × (number_of NotEnoughSpace ≡ 21)
-  -- "(P7) resize 0x1B00 accepted"
+  -- `a` made as large as it can be
   pub P7 : on_master (resize_file 1 0x1B00) ≡ Ok tt
-  -- "(P8) 0x1B01: 21"
+  -- a byte more
   pub P8 : (on_master (resize_file 1 0x1B01) ≡ Err NotEnoughSpace) × (number_of NotEnoughSpace ≡ 21)
-  -- "(P9) path `` gives 0"
+  -- the empty path
   pub P9 : lookup_answer master master_words 0 [] ≡ found.At 0 (Directory (record { parent = 0; next = 2 }))
-  -- "(P10) `a/` 17"
+  -- `a/`, a component behind a file
   pub P10 : (lookup_answer master master_words 0 a/ ≡ found.Refused ExpectedDirectory) × (number_of ExpectedDirectory ≡ 17)
-  -- "(P11) `..` 18"
+  -- `..` above the root
   pub P11 : (lookup_answer master master_words 0 up ≡ found.Refused NotFound) × (number_of NotFound ≡ 18)
-  -- "(P12) window of `a`, current -1 from 0: 23"; `negsuc 0` is the distance -1
+  -- the window of `a`, a step back from position 0; `negsuc 0` is the distance -1
   pub P12 : (open_file_answer master master_words 1 ≡ Ok window_of_a) × (seek_of window_of_a (Current (negsuc 0)) ≡ Err InvalidSeek) × (number_of InvalidSeek ≡ 23)
 
 pub marked : Marked
-unfolding max_file_size_answer max_region_size_answer allocate_answer lookup_answer entry_answer open_file_answer max_size_from beside_free allocation_of powers largest better_of align_up verdict_of counted_verdict totals_verdict plan_move plan_resize table_verdict_in place_verdict_in limits shallow shallow_from shut texts_of encode entries_bytes parent_of parent_below lookup follow components child_of first_child same_bytes set_place components_of units
+unfolding max_file_size_answer max_region_size_answer allocate_answer lookup_answer entry_answer open_file_answer max_size_from beside_free allocation_of powers largest better_of align_up verdict_of counted_verdict totals_verdict plan_move plan_resize table_verdict place_verdict limits shallow shallow_from shut texts_of encode entries_bytes parent_of parent_below lookup follow components child_of first_child same_bytes set_place components_of units
 marked = record {
   P1 = rw (opens, nodes, opens, free);
   P2 = rw (opens, free);
@@ -185,7 +185,7 @@ marked = record {
   P12 = (rw (opens, nodes), refl, refl);
 }
 
--- ---- the listing: "total 8192 used 1370", "d 0 0 2 /", "f 1 1280 256 /a", "r 1114 166", "r 1536 6656"
+-- ---- the listing, line by line
 
 pub record Listed : Type 0 where
   pub totals : totals_answer master master_words ≡ Ok (record { disc_end = 8192; used = 1370 })
@@ -204,7 +204,7 @@ small-listing = record {
   list = rw (opens, free);
 }
 
--- ---- document 02, Point 1: the same free regions in clusters, 166, 0, 0 and 6656, 0, 0
+-- ---- the same free regions in clusters
 
 pub record InClusters : Type 0 where
   pub regions : free_clusters_answer master master_words 6 ≡ Ok 2

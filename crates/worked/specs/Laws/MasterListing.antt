@@ -46,7 +46,7 @@ regions = record { offset = 1114; size = 166 } ∷ record { offset = 1536; size 
 
 parts : listing_text master ≡ totals_line 8192 1370 ++ (entry_lines tree 2 ++ region_lines regions)
 unfolding listing_text
-parts = rw (header.2, used, nodes, free)
+parts = rw (free, header.2, used, nodes)
 
 line-by-line : totals_line 8192 1370 ++ (entry_lines tree 2 ++ region_lines regions) ≡ listing
 unfolding digits path_within parent_of parent_below entry_line entry_lines region_lines

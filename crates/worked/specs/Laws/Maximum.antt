@@ -1,5 +1,5 @@
--- Worked stated maxima (document 02, Point 7), by computing, on the small master: its table has 0x1A bytes, and 0x28 with an entry `b` more.
--- Assumes nothing.
+-- Worked stated maxima, by computing, on the small master: its table has 0x1A bytes, and 0x28 with an entry
+-- `b` more. Assumes nothing.
 use Rattle.std.specs.Prelude.{Ok, Err}
 use Rattle.refusal.specs.Refusal.{Verdict}
 use Rattle.std.specs.Prelude.{ℕ, ◌-◌, ◌^◌, ◌≡◌, refl, List, [], ◌∷◌, replicate}
@@ -18,8 +18,8 @@ use Rattle.space.specs.Free.{runs, free_regions}
 use Rattle.space.specs.MaxRegionSize.{beside_free, max_size_from}
 use Rattle.space.specs.Totals.{totals_verdict}
 use Rattle.executable.specs.Program.{program_of, program_in, own_region}
-use Rattle.opened.specs.Opening.{table_of, nodes_in, opening, behind_table, used_in, free_space_of, used_of, layout_verdict}
-use Rattle.edits.specs.Change.{Change, nothing, change, filled, with_table, written, table_verdict_in, place_verdict_in}
+use Rattle.opened.specs.Opening.{table_of, nodes_in, opening, behind_table, used_in, free_space_of, used_of, layout_verdict, disc_of}
+use Rattle.edits.specs.Change.{Change, nothing, change, filled, with_table, written, table_verdict, place_verdict}
 use Rattle.edits.specs.Edits.{Edit, insert_file, move_file, resize_file, fill_file, rewrite, table_only, insert_verdict, plan_of, plan_move, plan_resize, plan_fill, counted_verdict, verdict_of}
 use Rattle.worked.specs.Image.{master, master_words}
 use Rattle.worked.specs.Laws.Marked.{at, fresh}
@@ -50,7 +50,6 @@ unfolding free_regions runs uses_byte
 runs-between = refl
 
 free : (m : ℕ) → free_space_of (stating m) ≡ at 1114 166 ∷ at 1536 6656 ∷ []
-unfolding free_space_of
 free m = rw (regions m, (table m).2) runs-between
 
 used : (m : ℕ) → used_of (stating m) ≡ 1370
@@ -78,14 +77,14 @@ unfolding tight stating master put be32
 tight-header = (refl, refl, refl, refl)
 
 tight-free : free_space_of (tight 0) ≡ at 1370 6822 ∷ []
-unfolding tight stating master put table_of nodes_in nodes_of nodes_from node_at name_at count be24 be32 free_space_of used_in behind_table program_of program_in own_region free_regions runs uses_byte nonempty
+unfolding tight stating master put table_of nodes_in nodes_of nodes_from node_at name_at count be24 be32 used_in behind_table program_of program_in own_region free_regions runs uses_byte nonempty
 tight-free = refl
 
 -- the same, with a zero byte more behind the texts: 0x1B bytes, written anew 0x1A
 unfoldable pub slack : ℕ → List ℕ
 slack m = put (stating m) 0x428 (be32_bytes 0x1B)
 
-slack-opens : opening (slack 0x1A) master_words ≡ Ok tt
+pub slack-opens : opening (slack 0x1A) master_words ≡ Ok tt
 unfolding slack stating master put opening layout_verdict header_verdict fields_verdict field_verdict fields bounds_verdict table_of check nodes_in nodes_of nodes_from node_at name_at count entries_verdict entry_verdict unended walk name_verdict next_verdict shut plain safe be24 be32 used_in behind_table program_of program_in own_region nonempty disjoint_below pairwise_disjoint disjoint_from_all disjoint end_by units
 slack-opens = refl
 
@@ -97,12 +96,12 @@ slack-nodes : nodes_in (slack 0x1A) ≡ directory [] 2 ∷ file (0x61 ∷ []) 0x
 unfolding slack stating master put table_of nodes_in nodes_of nodes_from node_at name_at count be24 be32
 slack-nodes = refl
 
-slack-header : (fst_offset (slack 0x1A) ≡ 0x440) × (fst_size (slack 0x1A) ≡ 0x1B) × (fst_max_size (slack 0x1A) ≡ 0x1A)
+pub slack-header : (fst_offset (slack 0x1A) ≡ 0x440) × (fst_size (slack 0x1A) ≡ 0x1B) × (fst_max_size (slack 0x1A) ≡ 0x1A)
 unfolding slack stating master put be32
 slack-header = (refl, refl, refl)
 
 slack-free : free_space_of (slack 0x1A) ≡ at 1115 165 ∷ at 1536 6656 ∷ []
-unfolding slack stating master put table_of nodes_in nodes_of nodes_from node_at name_at count be24 be32 free_space_of used_in behind_table program_of program_in own_region free_regions runs uses_byte nonempty
+unfolding slack stating master put table_of nodes_in nodes_of nodes_from node_at name_at count be24 be32 used_in behind_table program_of program_in own_region free_regions runs uses_byte nonempty
 slack-free = refl
 
 slack-used : used_of (slack 0x1A) ≡ 1371
@@ -128,11 +127,11 @@ with_b = table_only (directory [] 3 ∷ file (0x61 ∷ []) 0x500 0x100 ∷ file 
 abbrev tight_with_b : Change
 tight_with_b = table_only (directory [] 3 ∷ file (0x61 ∷ []) 0x45A 0x100 ∷ file (0x62 ∷ []) 0 0 ∷ [])
 
-plan-b : (m : ℕ) → plan_of insert_b (stating m) ≡ change 2 with_b
+plan-b : (m : ℕ) → plan_of insert_b (disc_of (stating m)) ≡ change 2 with_b
 unfolding insert_verdict insert_at splice bump child_of first_child same_bytes plain safe parent_of parent_below shut units
 plan-b m = rw (nodes m)
 
-tight-plan : (m : ℕ) → plan_of insert_b (tight m) ≡ change 2 tight_with_b
+tight-plan : (m : ℕ) → plan_of insert_b (disc_of (tight m)) ≡ change 2 tight_with_b
 unfolding insert_verdict insert_at splice bump child_of first_child same_bytes plain safe parent_of parent_below shut units
 tight-plan m = rw (tight-nodes m)
 
@@ -144,7 +143,7 @@ inserted m = refl
 abbrev clip : List ℕ
 clip = replicate 0x100 7
 
-plan-clip : plan_of (fill_file 1 clip) (stating 0x19) ≡ filled 1 clip nothing
+plan-clip : plan_of (fill_file 1 clip) (disc_of (stating 0x19)) ≡ filled 1 clip nothing
 unfolding plan_fill plan_resize
 plan-clip = rw (nodes 0x19)
 
@@ -161,7 +160,7 @@ on m ed = verdict_of ed fresh (stating m) master_words 0x28
 pub record Maximum : Type 0 where
   -- a table of exactly the maximum: a rewrite is accepted, an insert is 26
   pub exact : (on 0x1A rewrite ≡ Ok tt) × (on 0x1A insert_b ≡ Err TableAboveMaximum)
-  -- "An image whose table is already larger still opens": a rewrite is 26, and so are a move and a shrink
+  -- an image whose table is above it opens: a rewrite is 26, and so are a move and a shrink
   pub larger : (opening (stating 0x19) master_words ≡ Ok tt) × (on 0x19 rewrite ≡ Err TableAboveMaximum) × (on 0x19 (move_file 1 0x600) ≡ Err TableAboveMaximum) × (on 0x19 (resize_file 1 0xFF) ≡ Err TableAboveMaximum)
   -- a resize to the present size and a fill of it write no table
   pub same_size : (on 0x19 (resize_file 1 0x100) ≡ Ok tt) × (on 0x19 (fill_file 1 clip) ≡ Ok tt)
@@ -169,7 +168,7 @@ pub record Maximum : Type 0 where
   pub none : (on 0 rewrite ≡ Ok tt) × (on 0 insert_b ≡ Ok tt)
   -- the table with `b` has 0x28 bytes
   pub grown : (on 0x28 insert_b ≡ Ok tt) × (on 0x27 insert_b ≡ Err TableAboveMaximum)
-  -- "may be edited down to the maximum": a table of 0x1B bytes, one of which no name uses
+  -- one that is edited down to it: a table of 0x1B bytes, one of which no name uses
   pub edited-down : verdict_of rewrite fresh (slack 0x1A) master_words 0x1A ≡ Ok tt
   -- 9 comes before 26: one working word too few for three entries, one working byte too few for their table
   pub limits-first : verdict_of insert_b fresh (stating 0x1A) 19 0x28 ≡ Err LimitOrMemory
@@ -181,7 +180,7 @@ pub record Maximum : Type 0 where
   pub number : number_of TableAboveMaximum ≡ 26
 
 pub maximum : Maximum
-unfolding verdict_of counted_verdict totals_verdict plan_move plan_resize max_size_from beside_free table_verdict_in place_verdict_in limits shallow shallow_from shut texts_of encode entries_bytes parent_of parent_below set_place
+unfolding verdict_of counted_verdict totals_verdict plan_move plan_resize max_size_from beside_free table_verdict place_verdict limits shallow shallow_from shut texts_of encode entries_bytes parent_of parent_below set_place
 maximum = record {
   exact = (rw (opens 0x1A, nodes 0x1A, free 0x1A, stated.0, (table 0x1A).0, (table 0x1A).1, used 0x1A, rewritten 0x1A), rw (opens 0x1A, plan-b 0x1A, stated.0));
   larger = (

@@ -1,5 +1,5 @@
--- Document 02, Point 2, on small images, by computing: the walk before 24 and 24 before 14, what a program uses, and that neither a file nor the
--- table takes its bytes. Assumes nothing.
+-- Programs on small images, by computing: the walk before 24 and 24 before 14, what a program uses, and that
+-- neither a file nor the table takes its bytes. Assumes nothing.
 use Rattle.std.specs.Prelude.{Some, Ok, Err}
 use Rattle.refusal.specs.Refusal.{Verdict}
 use Rattle.std.specs.Prelude.{ℕ, ◌+◌, ◌≡◌, refl, List, [], ◌∷◌, ◌++◌, replicate}
@@ -23,7 +23,7 @@ use Rattle.space.specs.Totals.{totals_verdict}
 use Rattle.executable.specs.Dol.{words_at, largest_of}
 use Rattle.executable.specs.Program.{program_of, program_in, own_region}
 use Rattle.opened.specs.Opening.{table_of, nodes_in, behind_table, used_in, layout_verdict, opening, free_space_of, used_of}
-use Rattle.edits.specs.Change.{with_table, written, table_verdict_in, place_verdict_in}
+use Rattle.edits.specs.Change.{with_table, written, table_verdict, place_verdict}
 use Rattle.edits.specs.Edits.{table_only, insert_file, move_file, resize_file, rewrite, insert_verdict, plan_move, plan_resize, counted_verdict, verdict_of}
 use Rattle.disc.specs.Calls.{totals_of}
 
@@ -85,7 +85,6 @@ unfolding free_regions runs uses_byte
 runs-of-one = refl
 
 pub free : free_space_of one ≡ at 0x45A 0xA6 ∷ at 0x723 0x1DD ∷ []
-unfolding free_space_of
 free = rw (used.0, header.2) runs-of-one
 
 -- ---- edits keep off it; 40 working bytes are enough for three entries, and the record is one made of the image
@@ -115,7 +114,6 @@ unfolding free_regions runs uses_byte
 runs-of-two = refl
 
 two-free : free_space_of two ≡ at 0x53E 0xC2 ∷ at 0x700 0x200 ∷ []
-unfolding free_space_of
 two-free = rw (two-used.0, two-header.2) runs-of-two
 
 -- the table written as it is
@@ -133,7 +131,7 @@ pub record Kept : Type 0 where
   pub twenty-one : number_of NotEnoughSpace ≡ 21
 
 pub kept : Kept
-unfolding verdict_of counted_verdict totals_verdict plan_move plan_resize insert_verdict insert_at splice child_of first_child same_bytes plain safe max_size_from beside_free allocation_of powers largest better_of align_up table_verdict_in place_verdict_in limits shallow shallow_from shut texts_of encode entries_bytes parent_of parent_below set_place units
+unfolding verdict_of counted_verdict totals_verdict plan_move plan_resize insert_verdict insert_at splice child_of first_child same_bytes plain safe max_size_from beside_free allocation_of powers largest better_of align_up table_verdict place_verdict limits shallow shallow_from shut texts_of encode entries_bytes parent_of parent_below set_place units
 kept = record {
   move-onto = rw (opened.at-file.0, nodes, free);
   grow-onto = rw (opened.at-file.0, nodes, free);

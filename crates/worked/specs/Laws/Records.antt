@@ -1,5 +1,5 @@
--- Worked totals records (document 02, Point 6), by computing, on the small master: a record made, moved by each kind of edit that is accepted, and
--- 25 at each end of its range. Assumes nothing.
+-- Worked totals records, by computing, on the small master: a record made, moved by each kind of edit that is
+-- accepted, and 25 at each end of its range. Assumes nothing.
 use Rattle.std.specs.Prelude.{Ok, Err}
 use Rattle.refusal.specs.Refusal.{Verdict}
 use Rattle.std.specs.Prelude.{ℕ, ◌-◌, ◌^◌, ◌≡◌, refl, List, [], ◌∷◌}
@@ -8,7 +8,7 @@ use Rattle.refusal.specs.declared.Refusal.TheVariants.{OverlappingMove, NotEnoug
 use Rattle.refusal.specs.Refusal.{number_of}
 use Rattle.tree.specs.Table.{file, directory, count, name_at, node_at, nodes_from, nodes_of, shut, parent_below, parent_of, entries_bytes, texts_of, encode, shallow_from, shallow, limits}
 use Rattle.tree.specs.Insert.{set_place}
-use Rattle.space.specs.Used.{uses_byte, nonempty, total_size}
+use Rattle.space.specs.Used.{uses_byte, nonempty, total_size, no_region}
 use Rattle.space.specs.Free.{runs, free_regions, largest_size}
 use Rattle.space.specs.MaxRegionSize.{beside_free, max_size_from}
 use Rattle.space.specs.declared.totals.Totals.{Totals}
@@ -16,7 +16,7 @@ use Rattle.space.specs.Totals.{totals_verdict, totals_moved}
 use Rattle.executable.specs.Program.{program_of, program_in, own_region}
 use Rattle.opened.specs.Opening.{table_of, nodes_in, behind_table, used_in, free_space_of, used_of}
 use Rattle.disc.specs.Calls.{record_answer}
-use Rattle.edits.specs.Change.{with_table, written, table_verdict_in, place_verdict_in}
+use Rattle.edits.specs.Change.{with_table, written, table_verdict, place_verdict}
 use Rattle.edits.specs.Edits.{Edit, move_file, resize_file, rewrite, table_only, plan_move, plan_resize, counted_verdict, verdict_of, image_after, totals_after}
 use Rattle.worked.specs.Image.{master, master_words, master_bytes}
 use Rattle.worked.specs.Laws.Marked.{at, opens, nodes, header, free, used, fresh, resized_a, moved-used, moved-free}
@@ -31,7 +31,7 @@ unfolding master put table_of nodes_in nodes_of nodes_from node_at name_at count
 useds = (refl, refl, refl, refl)
 
 frees : (free_space_of rewritten_master ≡ at 1114 166 ∷ at 1536 6656 ∷ []) × (free_space_of (resized_a 756) ≡ at 1114 166 ∷ at 2036 6156 ∷ [])
-unfolding master put table_of nodes_in nodes_of nodes_from node_at name_at count be24 be32 texts_of encode entries_bytes parent_of parent_below written with_table free_space_of used_in behind_table program_of program_in own_region free_regions runs uses_byte nonempty
+unfolding master put table_of nodes_in nodes_of nodes_from node_at name_at count be24 be32 texts_of encode entries_bytes parent_of parent_below written with_table used_in behind_table program_of program_in own_region free_regions runs uses_byte nonempty
 frees = (refl, refl)
 
 -- ---- what an edit of the small master with a record answers, and what image and record it leaves
@@ -60,7 +60,7 @@ module _ (t : Totals) where
     pub moved : answer (move_file 1 0x600) t ≡ totals_verdict t 1370 1370
 
   counted : Counted
-  unfolding verdict_of counted_verdict plan_move plan_resize max_size_from beside_free table_verdict_in place_verdict_in limits shallow shallow_from shut texts_of encode entries_bytes parent_of parent_below set_place
+  unfolding verdict_of counted_verdict plan_move plan_resize max_size_from beside_free table_verdict place_verdict limits shallow shallow_from shut texts_of encode entries_bytes parent_of parent_below set_place
   counted = record {
     rewritten = rw (opens, nodes, free, header.3, header.0, header.1, used, useds.0);
     same_size = rw (opens, nodes, used);
@@ -98,7 +98,7 @@ abbrev counted-out : Totals
 counted-out = totals 1370 6656 most
 
 pub record Records : Type 0 where
-  -- "A record made at opening, its count 0"
+  -- one that is made counts no edit
   pub made : record_answer master master_words ≡ Ok fresh
   -- `a` grown by 500 bytes, which the free region behind it loses
   pub grown : (answer (resize_file 1 756) fresh ≡ Ok tt) × (after (resize_file 1 756) fresh ≡ totals 1870 6156 1)
@@ -108,7 +108,7 @@ pub record Records : Type 0 where
   pub rewritten : (answer rewrite fresh ≡ Ok tt) × (after rewrite fresh ≡ totals 1370 6656 1)
   -- a move uses no more bytes; of the region behind `a` 6400 are left
   pub moved : (answer (move_file 1 0x600) fresh ≡ Ok tt) × (after (move_file 1 0x600) fresh ≡ totals 1370 6400 1)
-  -- a record that is not the image's: used bytes and count move from what it holds, and "the largest region is the new image's"
+  -- a record that is not the image's: used bytes and count move from what it holds, and the largest region is that of the new image
   pub other : after (resize_file 1 756) (totals 5 7 9) ≡ totals 505 6156 10
   pub largest : (n : ℕ) → (after rewrite (totals 1370 n 0) ≡ totals 1370 6656 1) × (after (resize_file 1 0x100) (totals 1370 n 0) ≡ totals 1370 6656 1)
   -- the last edit that can be counted, and one more: 25, and all is left as it was
@@ -119,13 +119,13 @@ pub record Records : Type 0 where
   pub below : (answer (resize_file 1 0xFF) (totals 1 6656 0) ≡ Ok tt) × (answer (resize_file 1 0xFF) (totals 0 6656 0) ≡ Err TotalsOutOfRange)
   -- one byte more, where there is room for one and for none
   pub above : (answer (resize_file 1 0x101) (totals (most - 1) 6656 0) ≡ Ok tt) × (answer (resize_file 1 0x101) (totals most 6656 0) ≡ Err TotalsOutOfRange)
-  -- "tested last": with that record too a move to no free place is 21, and one onto the file itself 20
+  -- 25 comes last: with that record too a move to no free place is 21, and one onto the file itself 20
   pub before-25 : (answer (move_file 1 0x400) counted-out ≡ Err NotEnoughSpace) × (answer (move_file 1 0x580) counted-out ≡ Err OverlappingMove) × (after (move_file 1 0x400) counted-out ≡ counted-out)
   pub numbers : (number_of TotalsOutOfRange ≡ 25) × (number_of NotEnoughSpace ≡ 21) × (number_of OverlappingMove ≡ 20)
 
-no_place : answer (move_file 1 0x400) counted-out ≡ Err NotEnoughSpace
+no_region : answer (move_file 1 0x400) counted-out ≡ Err NotEnoughSpace
 unfolding verdict_of counted_verdict plan_move max_size_from beside_free
-no_place = rw (opens, nodes, free)
+no_region = rw (opens, nodes, free)
 
 onto-itself : answer (move_file 1 0x580) counted-out ≡ Err OverlappingMove
 unfolding verdict_of counted_verdict plan_move
@@ -146,6 +146,6 @@ records = record {
   full-same = (counted counted-out).same_size;
   below = ((counted (totals 1 6656 0)).less, (counted (totals 0 6656 0)).less);
   above = ((counted (totals (most - 1) 6656 0)).more, (counted (totals most 6656 0)).more);
-  before-25 = (no_place, onto-itself, rw no_place);
+  before-25 = (no_region, onto-itself, rw no_region);
   numbers = (refl, refl, refl);
 }

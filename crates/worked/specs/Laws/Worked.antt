@@ -1,5 +1,5 @@
--- Worked examples beside P1 to P12, by computing, of what demand 3 does not show: an old place, a table's lost tail and a shrunk file's lost
--- end zeroed; 19; growth at a multiple of 0x8000. Assumes nothing.
+-- Worked examples beside P1 to P12, by computing, of what the claim about lists does not show: an old place, a table's
+-- lost tail and a shrunk file's lost end zeroed; 19; growth at a multiple of 0x8000. Assumes nothing.
 use Rattle.std.specs.Prelude.{Ok, Err}
 use Rattle.refusal.specs.Refusal.{Verdict}
 use Rattle.std.specs.Prelude.{ℕ, ◌≡◌, refl, List, [], ◌∷◌, ◌++◌, replicate}
@@ -23,7 +23,7 @@ use Rattle.space.specs.Allocate.{better_of, largest, powers, allocation_of}
 use Rattle.space.specs.Totals.{totals_verdict}
 use Rattle.executable.specs.Program.{program_of, program_in, own_region}
 use Rattle.opened.specs.Opening.{table_of, nodes_in, opening, free_space_of, used_of, used_in, behind_table, layout_verdict}
-use Rattle.edits.specs.Change.{with_table, written, table_verdict_in, place_verdict_in}
+use Rattle.edits.specs.Change.{with_table, written, table_verdict, place_verdict}
 use Rattle.edits.specs.Edits.{Edit, insert_file, insert_directory, move_file, resize_file, rewrite, insert_verdict, plan_move, plan_resize, counted_verdict, verdict_of, image_after}
 use Rattle.disc.specs.Calls.{totals_of}
 
@@ -62,17 +62,17 @@ unfoldable pub small : List ℕ
 small = image_to 0x600
 
 pub record Worked : Type 0 where
-  -- "Move copies the smaller of both sizes, writes the table, then zeroes the old place"
+  -- the file's bytes go along, and its old place is zeroed
   pub moved : (verdict_on (move_file 1 0x540) small ≡ Ok tt) × (span (after (move_file 1 0x540) small) 0x540 8 ≡ of_a) × (span (after (move_file 1 0x540) small) 0x500 8 ≡ replicate 8 0)
-  -- "zeros over a table's lost tail, the new FST size in the header"
+  -- zeros where the old table was longer, and the new size in the header
   pub rewritten : (span small 0x440 43 ≡ entries ++ lost) × (verdict_on rewrite small ≡ Ok tt) × (span (after rewrite small) 0x440 43 ≡ entries ++ (0 ∷ 0 ∷ 0 ∷ [])) × (fst_size (after rewrite small) ≡ 40)
-  -- "a shrink zeroes the lost end after the table"
+  -- what the file loses is zeroed
   pub shrunk : (verdict_on (resize_file 1 3) small ≡ Ok tt) × (span (after (resize_file 1 3) small) 0x500 12 ≡ 1 ∷ 2 ∷ 3 ∷ 0 ∷ 0 ∷ 0 ∷ 0 ∷ 0 ∷ of_b)
   -- a name that a child of the root has: 19, for a file and for a directory
   pub exists : (verdict_on (insert_file 0 (0x62 ∷ [])) small ≡ Err AlreadyExists) × (verdict_on (insert_directory 0 (0x62 ∷ [])) small ≡ Err AlreadyExists) × (number_of AlreadyExists ≡ 19)
 
 pub worked : Worked
-unfolding small plan_move plan_resize insert_verdict child_of first_child same_bytes put opening layout_verdict header_verdict fields_verdict field_verdict fields bounds_verdict table_of check nodes_in nodes_of nodes_from node_at name_at count entries_verdict entry_verdict unended walk name_verdict next_verdict shut plain safe be24 be32 used_in behind_table program_of program_in own_region nonempty disjoint_below pairwise_disjoint disjoint_from_all disjoint end_by free_space_of free_regions runs uses_byte used_of total_size totals_verdict image_after verdict_of counted_verdict table_verdict_in place_verdict_in limits shallow shallow_from texts_of encode entries_bytes parent_of parent_below set_place written with_table max_size_from beside_free units
+unfolding small plan_move plan_resize insert_verdict child_of first_child same_bytes put opening layout_verdict header_verdict fields_verdict field_verdict fields bounds_verdict table_of check nodes_in nodes_of nodes_from node_at name_at count entries_verdict entry_verdict unended walk name_verdict next_verdict shut plain safe be24 be32 used_in behind_table program_of program_in own_region nonempty disjoint_below pairwise_disjoint disjoint_from_all disjoint end_by free_regions runs uses_byte used_of total_size totals_verdict image_after verdict_of counted_verdict table_verdict place_verdict limits shallow shallow_from texts_of encode entries_bytes parent_of parent_below set_place written with_table max_size_from beside_free units
 worked = record {
   moved = (refl, refl, refl);
   rewritten = (refl, refl, refl, refl);
@@ -97,7 +97,7 @@ unfolding large put table_of nodes_in nodes_of nodes_from node_at name_at count 
 large-nodes = refl
 
 pub large-free : free_space_of large ≡ at 0x46B 0x95 ∷ at 0x50C 0x7B34 ∷ []
-unfolding large put table_of nodes_in nodes_of nodes_from node_at name_at count be24 be32 free_space_of used_in behind_table program_of program_in own_region free_regions runs uses_byte nonempty
+unfolding large put table_of nodes_in nodes_of nodes_from node_at name_at count be24 be32 used_in behind_table program_of program_in own_region free_regions runs uses_byte nonempty
 large-free = refl
 
 pub large-used : used_of large ≡ 1143
@@ -123,7 +123,7 @@ unfolding large put table_of nodes_in nodes_of nodes_from node_at name_at count 
 grown-used = refl
 
 grows : verdict_on (resize_file 1 12) large ≡ Ok tt
-unfolding verdict_of counted_verdict totals_verdict plan_resize max_size_from beside_free allocation_of powers largest better_of align_up table_verdict_in place_verdict_in limits shallow shallow_from shut texts_of encode entries_bytes parent_of parent_below set_place
+unfolding verdict_of counted_verdict totals_verdict plan_resize max_size_from beside_free allocation_of powers largest better_of align_up table_verdict place_verdict limits shallow shallow_from shut texts_of encode entries_bytes parent_of parent_below set_place
 grows = rw (large-opens, large-nodes, large-free, large-header.2, large-header.0, large-header.1, large-free, large-used, grown-used)
 
 grown-is : after (resize_file 1 12) large ≡ grown
@@ -139,7 +139,7 @@ grown-reads = (refl, refl, refl)
 
 -- `a` grown by 4 bytes, which do not fit before `b`
 pub record Grown : Type 0 where
-  -- "Growth finds a place with alignment 0x8000 where the file can't grow where it is. Grown bytes are what the free space held."
+  -- at a multiple of 0x8000, where it can't grow in place; what it gains is as the free space held it
   pub accepted : verdict_on (resize_file 1 12) large ≡ Ok tt
   pub tree : nodes_in (after (resize_file 1 12) large) ≡ directory [] 3 ∷ file (0x61 ∷ []) 0x8000 12 ∷ file (0x62 ∷ []) 0x508 4 ∷ []
   pub bytes : span (after (resize_file 1 12) large) 0x8000 12 ≡ of_a ++ (0xEE ∷ 0xEE ∷ 0xEE ∷ 0xEE ∷ [])

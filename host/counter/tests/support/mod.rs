@@ -239,7 +239,7 @@ pub fn get(image: &[u8], at: usize) -> u32 {
     u32::from_be_bytes(image[at..at + 4].try_into().unwrap())
 }
 
-/// The scope paper's small master, byte for byte as it describes it.
+/// The small master, byte for byte (FORMAT, The small master).
 pub fn small_master() -> Vec<u8> {
     let mut image = vec![0; 0x2000];
     put(&mut image, 0x1C, 0xC233_9F3D);
@@ -566,7 +566,7 @@ impl Table {
         format!("counter record 1\nused {used} largest {largest} edits {edits}\n")
     }
 
-    /// The scope paper's listing of it.
+    /// Its listing.
     pub fn listing(&self) -> String {
         String::from_utf8_lossy(&self.listing_bytes()).into_owned()
     }
@@ -596,7 +596,7 @@ pub fn grouped(number: u64) -> String {
     }
 }
 
-/// The image at `image` with the file at `path` filled, from the scope paper's words: the clip where the
+/// The image at `image` with the file at `path` filled, by the rules' words: the clip where the
 /// file lies, if there is room, or else at the largest free multiple of 0x8000, the last among equals;
 /// zeros where the file was and is no more; place and size in the table, which has no name shared.
 pub fn filled(image: &Path, path: impl AsRef<[u8]>, clip: &[u8]) -> Vec<u8> {

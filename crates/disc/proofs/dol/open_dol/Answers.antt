@@ -1,7 +1,7 @@
--- `files::executable::open_dol` meets its contract: what the image says, behind opening's tests.
+-- `disc::dol::open_dol` meets its contract: what the image says, behind opening's tests.
 use Rattle.std.proofs.Common.{◌∙◌}
 use Rattle.std.proofs.lemmas.Result.{err_from_is_err_and}
-use Rattle.disc.proofs.AskedOfFiles.{dol_asked, dol_not_asked}
+use Rattle.disc.proofs.Asked.{dol_asked, dol_not_asked}
 use Rattle.disc.proofs.dol.open_dol.Goals as goal
 
 pub returns-in_err-of_image-clause-answer : goal.returns-in_err-of_image-clause-answer

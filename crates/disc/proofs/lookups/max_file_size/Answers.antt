@@ -1,8 +1,8 @@
--- `files::lookups::max_file_size` meets its contract: what the disc answers for the file that was found, behind opening's tests.
+-- `disc::lookups::max_file_size` meets its contract: what the disc answers for the file that was found, behind opening's tests.
 use Rattle.std.specs.Prelude.{Ok}
 use Rattle.std.proofs.Common.{ap, ◌∙◌}
 use Rattle.std.proofs.lemmas.Result.{err_from_is_err_and}
-use Rattle.disc.proofs.AskedOfFiles.{no_size, size_asked}
+use Rattle.disc.proofs.Asked.{no_size, size_asked}
 use Rattle.disc.proofs.lookups.max_file_size.Goals as goal
 
 pub returns-in_err-disc-clause-answer : goal.returns-in_err-disc-clause-answer

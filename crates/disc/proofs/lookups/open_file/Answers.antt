@@ -1,8 +1,8 @@
--- `files::lookups::open_file` meets its contract: what the disc answers for the file that was found, behind opening's tests.
+-- `disc::lookups::open_file` meets its contract: what the disc answers for the file that was found, behind opening's tests.
 use Rattle.std.specs.Prelude.{Ok}
 use Rattle.std.proofs.Common.{ap, ◌∙◌}
 use Rattle.std.proofs.lemmas.Result.{err_from_is_err_and}
-use Rattle.disc.proofs.AskedOfFiles.{no_window, window_asked}
+use Rattle.disc.proofs.Asked.{no_window, window_asked}
 use Rattle.disc.proofs.lookups.open_file.Goals as goal
 
 pub returns-in_err-disc-clause-answer : goal.returns-in_err-disc-clause-answer

@@ -17,4 +17,4 @@ returns-in_err-disc-clause-answer c =
 
 pub returns-clause-answer : goal.returns-clause-answer
 unfolding max_region_size_answer
-returns-clause-answer c = rw (← c.new-lent.ensures.memory) (free_asked Err (λ (l : List DiscRegion). Ok (max_region_size c.args.offset c.args.size l)) _ _ _ c.of_image.ensures _ c.in_ok-disc.was _ refl _ (ap Ok c.max_region_size.ensures))
+returns-clause-answer c = rw (← c.new-lent.ensures.memory) (free_asked _ _ _ c.of_image.ensures _ c.in_ok-disc.was Err (λ (l : List DiscRegion). Ok (max_region_size c.args.offset c.args.size l)) _ refl _ (ap Ok c.max_region_size.ensures))

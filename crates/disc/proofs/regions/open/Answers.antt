@@ -1,16 +1,9 @@
 -- `disc::regions::open` meets its contract: what the disc tells of itself, behind opening's tests.
 use Rattle.std.specs.Prelude.{Ok, Err}
 use Rattle.std.proofs.Common.{ap, ◌∙◌}
-use Rattle.std.proofs.lemmas.Result.{err_from_is_err_and}
-use Rattle.opened.specs.Laws.AnswerLaws.{asked, not_asked, told_meant}
+use Rattle.opened.specs.Laws.AnswerLaws.{asked, told_meant}
 use Rattle.disc.specs.Calls.{opened_of}
 use Rattle.disc.proofs.regions.open.Goals as goal
-
-pub returns-in_err-disc-clause-answer : goal.returns-in_err-disc-clause-answer
-unfolding opened_of
-returns-in_err-disc-clause-answer c =
-    let p = err_from_is_err_and c.from_residual.result c.from_residual.ensures.1 in
-    rw (p.1, p.2, ← c.new-lent.ensures.memory) (not_asked Err _ _ _ _ c.of_image.ensures _ c.in_err-disc.was)
 
 pub returns-clause-answer : goal.returns-clause-answer
 unfolding opened_of

@@ -1,16 +1,9 @@
 -- `disc::regions::totals` meets its contract: what the disc answers, behind opening's tests.
 use Rattle.std.specs.Prelude.{Err}
-use Rattle.std.proofs.lemmas.Result.{err_from_is_err_and}
 use Rattle.opened.specs.Laws.Meant.{end_meant, total_meant}
-use Rattle.opened.specs.Laws.AnswerLaws.{asked, not_asked}
+use Rattle.opened.specs.Laws.AnswerLaws.{asked}
 use Rattle.disc.specs.Calls.{totals_answer}
 use Rattle.disc.proofs.regions.totals.Goals as goal
-
-pub returns-in_err-disc-clause-answer : goal.returns-in_err-disc-clause-answer
-unfolding totals_answer
-returns-in_err-disc-clause-answer c =
-    let p = err_from_is_err_and c.from_residual.result c.from_residual.ensures.1 in
-    rw (p.1, p.2, ← c.new-lent.ensures.memory) (not_asked Err _ _ _ _ c.of_image.ensures _ c.in_err-disc.was)
 
 pub returns-clause-answer : goal.returns-clause-answer
 unfolding totals_answer

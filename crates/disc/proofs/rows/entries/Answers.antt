@@ -1,18 +1,11 @@
--- `files::listing::entries` meets its contract: the disc's entries, behind opening's tests and the list's room.
-use Rattle.std.specs.Prelude.{Err}
+-- `disc::rows::entries` meets its contract: the disc's entries, behind opening's tests and the list's room.
 use Rattle.std.proofs.Common.{refl, ◌∙◌}
 use Rattle.std.proofs.lemmas.Result.{err_from_is_err_and}
 use Rattle.refusal.specs.declared.Refusal.{Refusal}
 use Rattle.opened.specs.Laws.AnswerLaws.{not_asked}
 use Rattle.disc.specs.Files.{entries_answer, entries_list}
-use Rattle.disc.proofs.AskedOfFiles.{rows_asked, listing_asked}
+use Rattle.disc.proofs.Asked.{rows_asked, listing_asked}
 use Rattle.disc.proofs.rows.entries.Goals as goal
-
-pub returns-in_err-disc-clause-answer : goal.returns-in_err-disc-clause-answer
-unfolding entries_answer
-returns-in_err-disc-clause-answer c =
-    let p = err_from_is_err_and c.from_residual.result c.from_residual.ensures.1 in
-    rw (p.1, p.2, ← c.new-lent.ensures.memory) (not_asked Err _ _ _ _ c.of_image.ensures _ c.in_err-disc.was)
 
 pub returns-in_err-disc-clause-list_after : goal.returns-in_err-disc-clause-list_after
 unfolding entries_list

@@ -42,4 +42,4 @@ overflow_cast-number c =
     let a = allowed c.args.new.kind d c.args.new.parent c.args.new.name.now _ judged c.in_ok-check.was in
     let tree = c.new-table.ensures.tree ∙ c.in_ok-size.ensures.tree in
     let number = rw tree at c.in_ok-number.ensures.number in
-    record { fits = omega (arith, number, number-small d.nodes d.words c.args.new.parent (well-disc d _ c.table.ensures.of_image) c.in_ok-size.ensures.built.0 a.0) }
+    record { fits = omega (arith, number, number-small d.disc.nodes d.words c.args.new.parent (well-disc d _ c.table.ensures.of_image) c.in_ok-size.ensures.built.0 a.0) }

@@ -7,10 +7,10 @@ pub returns-in_err-file : goal.returns-in_err-file
 returns-in_err-file c =
     let a = c.args in
     let p = err_from_is_err_and c.from_residual.result c.from_residual.ensures.1 in
-    rw (p.1, p.2) (λ image m. move-refused image _ _ _ _ a.disc.now.nodes a.number _ _ (file-refused a.disc.now.nodes a.number _ _ c.file_on_disc.ensures.answer c.in_err-file.was))
+    rw (p.1, p.2) (λ image m. move-refused image _ _ _ _ _ a.disc.now.disc.nodes a.number _ _ (file-refused a.disc.now.disc.nodes a.number _ _ c.file_on_disc.ensures.answer c.in_err-file.was))
 
 pub returns : goal.returns
 returns c =
     let a = c.args in
-    let f = file-found a.disc.now.nodes a.number _ _ c.file_on_disc.ensures.answer c.in_ok-file.was in
-    λ image m. move-decided image _ _ _ _ a.disc.now.nodes a.number _ _ _ f.passed f.place (rw f.number at (c.relocate.ensures image m))
+    let f = file-found a.disc.now.disc.nodes a.number _ _ c.file_on_disc.ensures.answer c.in_ok-file.was in
+    λ image m. move-decided image _ _ _ _ _ a.disc.now.disc.nodes a.number _ _ _ f.passed f.place (rw f.number at (c.relocate.ensures image m))

@@ -20,4 +20,4 @@ returns c =
     λ image m. place-decided image a.disc.now m a.bytes.now _ a.number a.writing c.check_table.ensures.answer _ _ _ c.in_ok-size.was c.requires.is_file (c.requires.inside image m) (rw c.table.ensures.nodes at c.write_table.ensures) c.set_place.ensures
 
 pub set_place-requires : goal.set_place-requires
-set_place-requires c = omega (arith, entry-fits c.args.disc.now.nodes c.args.number _ c.requires.is_file c.in_ok-size.ensures.held, c.write_table.auto.bytes)
+set_place-requires c = omega (arith, entry-fits c.args.disc.now.disc.nodes c.args.number _ c.requires.is_file c.in_ok-size.ensures.held, c.write_table.auto.bytes)

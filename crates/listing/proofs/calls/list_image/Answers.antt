@@ -1,4 +1,4 @@
--- `listing::list_image` meets its contract, by the two cases of an image.
+-- `listing::calls::list_image` meets its contract, by the two cases of an image.
 use Rattle.std.proofs.lemmas.Result.{err_from_is_err_and}
 use Rattle.listing.proofs.Answers.{list-refused, buffer-refused, list-opened, buffer-opened}
 use Rattle.listing.proofs.calls.list_image.Goals as goal

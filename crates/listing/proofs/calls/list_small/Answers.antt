@@ -1,4 +1,4 @@
--- `listing::list_small` meets its contract, by the length of the image.
+-- `listing::calls::list_small` meets its contract, by the length of the image.
 use Rattle.listing.proofs.Answers.{large-answer, large-buffer, small-answer, small-buffer}
 use Rattle.listing.proofs.calls.list_small.Goals as goal
 

@@ -1,4 +1,4 @@
--- `listing::push_refused` meets its contract: three texts, one behind the other.
+-- `listing::calls::push_refused` meets its contract: three texts, one behind the other.
 use Rattle.listing.proofs.Joining.{appends-join}
 use Rattle.listing.proofs.calls.push_refused.Goals as goal
 

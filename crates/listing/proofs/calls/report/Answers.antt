@@ -1,4 +1,4 @@
--- `listing::report` meets its contract, by the two cases of a listing.
+-- `listing::calls::report` meets its contract, by the two cases of a listing.
 use Rattle.std.proofs.Common.{length}
 use Rattle.listing.proofs.Answers.{report-text, report-refused}
 use Rattle.listing.proofs.calls.report.Goals as goal

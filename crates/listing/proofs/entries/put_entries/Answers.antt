@@ -1,4 +1,4 @@
--- `listing_text::entries::put_entries` meets its contract. The invariant of its loop: the lines of the entries below k are written, and the directories around the last of them are kept.
+-- `listing::entries::put_entries` meets its contract. The invariant of its loop: the lines of the entries below k are written, and the directories around the last of them are kept.
 use Rattle.std.proofs.Common.{arith}
 use Rattle.listing.proofs.Tables.{Read, read-held}
 use Rattle.listing.proofs.Chains.{chain-start, climbs-start}

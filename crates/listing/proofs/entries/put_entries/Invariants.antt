@@ -1,4 +1,4 @@
--- `listing_text::entries::put_entries` meets its contract. The invariant of its loop: the lines of the entries below k are written, and the directories around the last of them are kept.
+-- `listing::entries::put_entries` meets its contract. The invariant of its loop: the lines of the entries below k are written, and the directories around the last of them are kept.
 use Rattle.tree.specs.Table.{nodes_of}
 use Rattle.listing.specs.Inner.Around.{Before}
 use Rattle.listing.proofs.LineParts.{Walking}

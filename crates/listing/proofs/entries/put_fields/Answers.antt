@@ -1,4 +1,4 @@
--- `listing_text::entries::put_fields` meets its contract, by the entry's kind.
+-- `listing::entries::put_fields` meets its contract, by the entry's kind.
 use mathlib.Core.Path.{sym, ◌∙◌}
 use Rattle.listing.proofs.LineParts.{file-written, directory-written}
 use Rattle.listing.proofs.entries.put_fields.Goals as goal

@@ -1,4 +1,4 @@
--- `listing_text::entries::put_name` meets its contract: the name, and `/` behind a directory's.
+-- `listing::entries::put_name` meets its contract: the name, and `/` behind a directory's.
 use mathlib.Core.Path.{sym, ◌∙◌}
 use Rattle.listing.proofs.LineParts.{directory-named, file-named}
 use Rattle.listing.proofs.entries.put_name.Goals as goal

@@ -1,4 +1,4 @@
--- `listing_text::entries::put_root` meets its contract: its three numbers, and its path.
+-- `listing::entries::put_root` meets its contract: its three numbers, and its path.
 use Rattle.listing.proofs.LineParts.{root-written}
 use Rattle.listing.proofs.entries.put_root.Goals as goal
 

@@ -1,4 +1,4 @@
--- `listing_text::lines::put_pair` meets its contract: three texts, one behind the other.
+-- `listing::lines::put_pair` meets its contract: three texts, one behind the other.
 use Rattle.listing.proofs.Joining.{appends-three}
 use Rattle.listing.proofs.lines.put_pair.Goals as goal
 

@@ -1,4 +1,4 @@
--- `listing_text::lines::put_totals` meets its contract: five texts, one behind the other.
+-- `listing::lines::put_totals` meets its contract: five texts, one behind the other.
 use Rattle.listing.proofs.Joining.{appends-join}
 use Rattle.listing.proofs.lines.put_totals.Goals as goal
 

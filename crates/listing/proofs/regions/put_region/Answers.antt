@@ -1,4 +1,4 @@
--- `listing_text::regions::put_region` meets its contract: the pair and the line feed.
+-- `listing::regions::put_region` meets its contract: the pair and the line feed.
 use Rattle.listing.proofs.Joining.{appends-two}
 use Rattle.listing.proofs.LineParts.{pair-more}
 use Rattle.listing.proofs.regions.put_region.Goals as goal

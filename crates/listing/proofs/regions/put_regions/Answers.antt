@@ -1,4 +1,4 @@
--- `listing_text::regions::put_regions` meets its contract: the lines written, and those of the regions that are left, are those of the free regions.
+-- `listing::regions::put_regions` meets its contract: the lines written, and those of the regions that are left, are those of the free regions.
 use Rattle.listing.proofs.Gaps.{regions-start, regions-more, regions-end}
 use Rattle.listing.proofs.regions.put_regions.Goals as goal
 

@@ -1,4 +1,4 @@
--- Demand 3 holds of any list of calls, and a file that no accepted edit named lies where it lay. Assumes nothing.
+-- What is claimed of any list of calls holds, and a file that no accepted edit named lies where it lay. Assumes nothing.
 use Rattle.std.specs.Prelude.{ℕ, List}
 use Rattle.endian.specs.Bytes.{span}
 use Rattle.opened.specs.Opening.{nodes_in}
@@ -13,8 +13,8 @@ use Rattle.ledger.proofs.Laws.ProgramKept.{ProgramKept}
 use Rattle.ledger.proofs.Laws.ProgramAfter.{program-along, same-program, program-reported}
 use Rattle.ledger.specs.Theorem.{LedgerHolds, AnyList, UnnamedStays}
 
-pub demand-3 : AnyList
-demand-3 image w₀ w calls b e h a =
+pub ledger-holds : AnyList
+ledger-holds image w₀ w calls b e h a =
     let k : Kept w image (first_ledger image) = start image w₀ w h b e in
     claim (image_after_all calls image) (ledger_after (reports_of calls image) (first_ledger image)) (along w calls image (first_ledger image) a k) (program-along w calls image (first_ledger image) a k)
   where

@@ -1,7 +1,7 @@
-//! Document 01's opening with the program and the names of document 02, its totals record and its table
-//! maximum, and the few sums that the sorting of differences needs, written down here a second time and
-//! from the papers alone, so that a difference is sorted by what they say of its input and not by what
-//! either side answers.
+//! A second writing of opening, with the program and the names, of the totals record and the table
+//! maximum, and of the few sums that the sorting of differences needs: by docs/RULES.md alone, so
+//! that a difference is sorted by what the rules say of its input and not by what either side
+//! answers.
 
 use std::fmt;
 use std::ops::Range;
@@ -43,7 +43,7 @@ pub struct Tree {
     pub entries: Vec<Entry>,
     pub fst_offset: u64,
     pub fst_size: u64,
-    /// 02: "sized by header field 0x42C. YAGCD names it the FST maximum." Opening does not judge it.
+    /// The stated maximum of the table, which opening does not judge.
     pub maximum: u64,
     pub disc_end: u64,
     /// The program, before the table or behind it: offset and size.
@@ -52,7 +52,7 @@ pub struct Tree {
     pub free: Vec<(u64, u64)>,
 }
 
-/// 02: "used bytes, the largest free region's size (0 if none) and accepted edits".
+/// A totals record: used bytes, the largest free region, accepted edits.
 #[derive(Clone, Copy, Debug, PartialEq, Eq)]
 pub struct Record {
     pub used: u64,
@@ -61,13 +61,12 @@ pub struct Record {
 }
 
 impl Record {
-    /// "A record made at opening, its count 0."
+    /// Of an image, before any edit.
     pub fn of(tree: &Tree) -> Self {
         Self { used: tree.used(), largest: largest(&tree.free), edits: 0 }
     }
 
-    /// "Used bytes move by the edit's change, the count by one; the largest region is the new
-    /// image's." None is 25, "used bytes or edit count would leave 0 to 2^32 - 1".
+    /// After an edit that leaves so many bytes used, and this largest free region. None is 25.
     pub fn moved(self, before: u64, after: u64, largest: u64) -> Option<Self> {
         let used = (self.used + after).checked_sub(before)?;
         let edits = self.edits + 1;
@@ -105,7 +104,7 @@ pub fn header(image: &[u8]) -> Result<(), u32> {
     if image.len() < 0x440 { Err(1) } else { Ok(()) }
 }
 
-/// The parts of cause 4, in the paper's order.
+/// The parts of cause 4, in the order in which they are tested.
 #[derive(Clone, Copy, PartialEq, Eq, Debug)]
 pub enum Bound {
     FstOffset,
@@ -151,8 +150,7 @@ pub fn dol_size(image: &[u8], at: u64) -> Option<u64> {
     (0..18).map(sum).max()
 }
 
-/// 02: "a nonzero DOL offset means a program from there, as long as the DOL's file size and at
-/// least 0xE4"; or 24.
+/// The program's region, none where the DOL offset is 0; or 24.
 fn program(image: &[u8]) -> Result<Option<(u64, u64)>, u32> {
     let at = word(image, 0x420) as u64;
     if at == 0 {
@@ -164,9 +162,8 @@ fn program(image: &[u8]) -> Result<Option<(u64, u64)>, u32> {
     }
 }
 
-/// What a program adds to the used regions. "It must lie wholly between 0x440 and the FST offset,
-/// as part of the used bytes 0 up to the table end, or wholly from the table end on, as a used
-/// region of its own; otherwise .. 14."
+/// What a program adds to the used regions: nothing before the table, itself from the table end on;
+/// anywhere else it is 14.
 fn beside_the_table(
     program: Option<(u64, u64)>,
     fst_offset: u64,
@@ -218,7 +215,7 @@ pub fn files_are_bad(image: &[u8]) -> bool {
     free(files_of(image), table_end, disc_end).is_err()
 }
 
-/// 02: "pairs of a lead byte (0x81 to 0x9F, 0xE0 to 0xFC) with a trail byte (0x40 to 0x7E, 0x80 to 0xFC)".
+/// The first byte of a pair.
 fn lead(byte: u8) -> bool {
     matches!(byte, 0x81..=0x9f | 0xe0..=0xfc)
 }
@@ -227,8 +224,8 @@ fn trail(byte: u8) -> bool {
     matches!(byte, 0x40..=0x7e | 0x80..=0xfc)
 }
 
-/// How many bytes the unit at the start of a text has: any byte that begins no pair is one of its own, so
-/// that behind a lead byte without its trail "the byte after it is judged afresh".
+/// How many bytes the unit at the start of a text has: any byte that begins no pair is one of its
+/// own, a lead byte without its trail too.
 fn unit(text: &[u8]) -> usize {
     match text {
         [first, second, ..] if lead(*first) && trail(*second) => 2,
@@ -250,13 +247,12 @@ pub fn units(mut text: &[u8]) -> impl Iterator<Item = &[u8]> {
     })
 }
 
-/// Whether a name may hold this unit: 0x20 to 0x7E, 0xA1 to 0xDF, and pairs. "A lead byte without its
-/// trail is 12 in a name."
+/// Whether a name may hold this unit: 0x20 to 0x7E, 0xA1 to 0xDF, and pairs.
 pub fn fit(unit: &[u8]) -> bool {
     matches!(unit, [0x20..=0x7e | 0xa1..=0xdf] | [_, _])
 }
 
-/// "A trail byte 0x5C is not a backslash, either in the safety rule or when a path is cut."
+/// The second byte of a pair is no `/`, `\` or `:`.
 pub fn unsafe_name(name: &[u8]) -> bool {
     matches!(name, b"" | b"." | b"..") || units(name).any(|u| matches!(u, b"/" | b"\\" | b":"))
 }
@@ -426,7 +422,7 @@ impl Tree {
         (12 * self.entries.len() + self.texts()) as u64
     }
 
-    /// "If it is nonzero, no edit may write a larger table."
+    /// Whether a table of that size is above the stated maximum.
     pub fn forbids(&self, size: u64) -> bool {
         self.maximum != 0 && size > self.maximum
     }

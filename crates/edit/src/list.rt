@@ -1,0 +1,43 @@
+// A list of edits, applied in turn as one call.
+ghost use Rattle.std.specs.Prelude.{length, map};
+ghost use Rattle.edits.specs.Promise.{lent};
+ghost use Rattle.ledger.specs.Lists.{AppliesInTurn, LedgerHoldsAfter, TellsAfter};
+ghost use Rattle.edit.specs.Inner.Decides.{edit_of};
+
+use crate::pipeline;
+use crate::pipeline::Edit;
+use opened::Lent;
+use refusal::{Refusal, Verdict};
+use space::Totals;
+
+/// Each edit in turn, on the image as the edits before it left it; a refused edit changes nothing, and the
+/// next one goes on. What an edit gives stands at its place in `answers`. Room for fewer answers than there
+/// are edits is refused before anything is done.
+pub fn apply_all(
+    image: &mut [u8],
+    words: &mut [u32],
+    bytes: &mut [u8],
+    totals: &mut Totals,
+    edits: &[Edit<'_>],
+    answers: &mut [Result<u32, Refusal>],
+) -> Verdict
+    ensures applied { let before = lent image.old words.old bytes.old totals.old in
+        let after = lent image.new words.new bytes.new totals.new in
+        AppliesInTurn (map edit_of edits.now) before after answers.old answers.new result }
+    ensures ledger_holds { let before = lent image.old words.old bytes.old totals.old in
+        let after = lent image.new words.new bytes.new totals.new in
+        LedgerHoldsAfter (length answers.old) (map edit_of edits.now) before after }
+    ensures record_tells { let before = lent image.old words.old bytes.old totals.old in
+        let after = lent image.new words.new bytes.new totals.new in
+        TellsAfter (length answers.old) (map edit_of edits.now) before after }
+{
+    let words = Lent::new(words);
+    let bytes = Lent::new(bytes);
+    if answers.len() < edits.len() {
+        return Err(Refusal::LimitOrMemory);
+    }
+    for (i, edit) in edits.iter().enumerate() {
+        answers[i] = pipeline::run(image, words.memory, bytes.memory, totals, *edit);
+    }
+    Ok(())
+}
