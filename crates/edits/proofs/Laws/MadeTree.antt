@@ -5,6 +5,7 @@ use Rattle.std.specs.Prelude.{ℕ, suc, ◌<◌, ◌≤◌, ◌≡◌, refl, Boo
 use Rattle.std.proofs.Common.{arith}
 use Rattle.refusal.specs.declared.Refusal.TheVariants.{UnsafeName, ExpectedDirectory}
 use Rattle.tree.specs.Table.{Node, directory, none, plain, safe}
+use Rattle.tree.proofs.Laws.Renumbered.{directory-is}
 use Rattle.tree.specs.Inner.WellFormed.{IsWellFormed}
 use Rattle.tree.specs.Lookup.{is_directory, stays, goes_back, child_of}
 use Rattle.tree.specs.Insert.{insert_at, empty_directory}
@@ -13,7 +14,6 @@ use Rattle.tree.proofs.Laws.WellNested.{next-bounds}
 use Rattle.tree.proofs.Laws.InsertLaws.{length-insert}
 use Rattle.tree.proofs.Laws.Growing.{Bigger, bigger-same, bigger-trans, bigger-insert}
 use Rattle.edits.specs.Edits.{new_number, stopped, made, made_back, if_found, make}
-use Rattle.edits.proofs.Laws.Troubles.{directory-is}
 use Rattle.edits.proofs.Laws.Making.{or-not}
 
 -- ---- the tree that is made is one that the tree grew into

@@ -1,5 +1,5 @@
 -- Bytes put over a part of a list, where nothing may be put anywhere. Assumes nothing.
-use Rattle.std.specs.Prelude.{ℕ, zero, suc, ◌+◌, ◌<◌, ◌≤◌, ◌≡◌, refl, List, [], ◌∷◌, ◌++◌, length, get_or, replicate}
+use Rattle.std.specs.Prelude.{ℕ, zero, suc, ◌+◌, ◌<◌, ◌≤◌, ◌≡◌, refl, List, [], ◌∷◌, length, get_or, replicate}
 use Rattle.std.proofs.Common.{inl, arith}
 use Rattle.endian.specs.Bytes.{put, span, be32, AllBytes}
 use Rattle.endian.specs.Laws.Stored.{length-put, put-outside, put-bytes, put-none, be32-same, Outside, length-span}
@@ -36,7 +36,3 @@ zeros-all zero i = omega arith
 zeros-all (suc n) zero = omega arith
 zeros-all (suc n) (suc i) = zeros-all n i
 
-pub append-all : (a b : List ℕ) → AllBytes a → AllBytes b → AllBytes (a ++ b)
-append-all [] b f g i = g i
-append-all (x ∷ a) b f g zero = f 0
-append-all (x ∷ a) b f g (suc i) = append-all a b (λ j. f (suc j)) g i

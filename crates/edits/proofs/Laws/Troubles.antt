@@ -6,7 +6,8 @@ use Rattle.std.specs.Prelude.{ℕ, zero, suc, ◌<◌, ◌≤◌, ◌≡◌, ref
 use Rattle.std.proofs.Common.{sym, ap, ◌∙◌, inl, inr, arith, eq-eqb, ne_eqb}
 use Rattle.refusal.specs.declared.Refusal.TheVariants.{InvalidNameByte, UnsafeName, ExpectedDirectory, NotFound}
 use Rattle.refusal.specs.Refusal.{refuse}
-use Rattle.tree.specs.Table.{Node, file, directory, none, plain, safe, parent_of}
+use Rattle.tree.specs.Table.{Node, directory, none, plain, safe, parent_of}
+use Rattle.tree.proofs.Laws.Renumbered.{directory-is}
 use Rattle.tree.specs.Lookup.{is_directory, next_of, stays, goes_back, child_of}
 use Rattle.tree.specs.Insert.{insert_at, empty_directory, shifted}
 use Rattle.tree.proofs.Laws.InsertedList.{IsNested}
@@ -20,10 +21,6 @@ use Rattle.edits.proofs.Laws.Making.{Where, Grown, Trail, State, trail-from, mar
 abbrev Same : List Node → ℕ → List (List ℕ) → Type 0
 Same nodes start cs = (M : List Node) (φ : ℕ → ℕ) (ν : ℕ → Bool) (bad : Bool) (level : ℕ) (trail : List ℕ) (m k : ℕ) → Grown nodes M φ ν bad →
     State nodes start φ ν level trail m k → m < length M → made_verdict (make M trail m bad cs) ≡ trouble_of nodes start k level bad cs
-
-pub directory-is : (x : Node) → is_directory x ≡ true → (nm : List ℕ) × (x ≡ directory nm (next_of x))
-directory-is (file nm a b) e = let z : ◌≡◌ {A = ℕ} 0 1 = cc in absurd (omega arith)
-directory-is (directory nm n) e = (nm, refl)
 
 module _ (nodes : List Node) (start : ℕ) (c : List ℕ) (cs : List (List ℕ)) (ih : Same nodes start cs) (M : List Node) (φ : ℕ → ℕ) (ν : ℕ → Bool) (bad : Bool) (trail : List ℕ) (m k : ℕ)
     (g : Grown nodes M φ ν bad) (m<n : m < length M) (dir : is_directory (get_or M m none) ≡ true) where

@@ -9,9 +9,10 @@ use Rattle.std.proofs.lemmas.Bool.{false≢true}
 use mathlib.Core.List.{List, [], ◌∷◌}
 use Rattle.refusal.specs.declared.Refusal.{Refusal}
 use Rattle.refusal.specs.declared.Refusal.TheVariants.{NotFound, ExpectedDirectory, UnsafeName}
-use Rattle.tree.specs.Table.{Node, file, directory, none, plain, safe}
+use Rattle.tree.specs.Table.{Node, none, plain, safe}
+use Rattle.tree.proofs.Laws.Renumbered.{directory-is}
 use Rattle.tree.specs.Inner.WellFormed.{IsWellFormed}
-use Rattle.tree.specs.Lookup.{is_directory, next_of, stays, goes_back, child_named, first_child, child_of}
+use Rattle.tree.specs.Lookup.{is_directory, stays, goes_back, child_named, first_child, child_of}
 use Rattle.tree.specs.Insert.{insert_at, empty_directory}
 use Rattle.tree.proofs.Laws.WellNested.{next-bounds}
 use Rattle.tree.proofs.Laws.InsertLaws.{length-insert, insert-sound}
@@ -19,10 +20,6 @@ use Rattle.edits.specs.Edits.{new_number, Made, stopped, made, made_back, if_fou
 use Rattle.ledger.specs.Ledger.{made_nodes}
 use Rattle.ledger.specs.Inner.Files.{pick}
 use Rattle.ledger.proofs.Laws.Files.{insert-directory}
-
-pub directory-of : (x : Node) → is_directory x ≡ true → (nm : List ℕ) × (x ≡ directory nm (next_of x))
-directory-of (file nm offset size) e = ([], absurd (false≢true e))
-directory-of (directory nm next) e = (nm, refl)
 
 -- ---- what a step of the walk that comes to an end was
 
@@ -65,7 +62,7 @@ first_below nodes d nm k (suc n) j e = go (child_named nodes d nm k) e (first_be
 
 module _ (nodes : List Node) (w : IsWellFormed nodes) (k : ℕ) (l : k < length nodes) (d : is_directory (get_or nodes k none) ≡ true) where
   next-in : (k < new_number nodes k) × (new_number nodes k ≤ length nodes)
-  next-in = let x = directory-of (get_or nodes k none) d in next-bounds nodes k (new_number nodes k) x.0 w x.1 l
+  next-in = let x = directory-is (get_or nodes k none) d in next-bounds nodes k (new_number nodes k) x.0 w x.1 l
 
   child-in : (nm : List ℕ) (j : ℕ) → child_of nodes k nm ≡ Ok j → j < length nodes
   unfolding child_of
@@ -73,12 +70,12 @@ module _ (nodes : List Node) (w : IsWellFormed nodes) (k : ℕ) (l : k < length 
 
   made-well : (nm : List ℕ) → plain nm ≡ true → safe nm ≡ true → IsWellFormed (insert_at k (empty_directory nm (new_number nodes k)) nodes)
   made-well nm p s =
-      let x = directory-of (get_or nodes k none) d in
+      let x = directory-is (get_or nodes k none) d in
       insert-sound nodes k (new_number nodes k) x.0 (empty_directory nm (new_number nodes k)) w x.1 l (p, s) refl
 
   made-length : (nm : List ℕ) → length (insert_at k (empty_directory nm (new_number nodes k)) nodes) ≡ suc (length nodes)
   made-length nm =
-      let x = directory-of (get_or nodes k none) d in
+      let x = directory-is (get_or nodes k none) d in
       length-insert nodes k (new_number nodes k) x.0 (empty_directory nm (new_number nodes k)) w x.1 l
 
 -- ---- the walk

@@ -10,6 +10,7 @@ use Rattle.refusal.specs.declared.Refusal.TheVariants.{LimitOrMemory, InvalidNam
 use Rattle.refusal.specs.Refusal.{refuse}
 use Rattle.refusal.specs.Laws.Chains.{refuse-passed}
 use Rattle.tree.specs.Table.{Node, name_of, none, plain, safe}
+use Rattle.tree.proofs.Laws.Renumbered.{directory-is}
 use Rattle.tree.specs.Inner.WellFormed.{IsWellFormed}
 use Rattle.tree.specs.Lookup.{is_directory, components, child_of}
 use Rattle.tree.specs.Insert.{insert_at, empty_file, empty_directory}
@@ -25,7 +26,7 @@ use Rattle.ledger.specs.Inner.Files.{place_of, files_of}
 use Rattle.ledger.proofs.Laws.Files.{files_in, places_in, used-put-in, insert-directory, insert-file}
 use Rattle.ledger.proofs.Laws.Histories.{trues-put-in, true-new}
 use Rattle.ledger.proofs.Laws.Bare.{before-bare, next-bare, insert-bare, made-bare}
-use Rattle.ledger.proofs.Laws.Making.{directory-of, made-same, made-good}
+use Rattle.ledger.proofs.Laws.Making.{made-same, made-good}
 use Rattle.ledger.proofs.Laws.Opened.{Opened}
 use Rattle.ledger.proofs.Laws.Room.{room}
 use Rattle.ledger.proofs.Laws.Kept.{Kept, opened-kept, Tabled, tabled}
@@ -56,7 +57,7 @@ insertable nodes p nm v =
 
 pub inserted-well : (nodes : List Node) (p : ℕ) (nm : List ℕ) → IsWellFormed nodes → Insertable nodes p nm → (new : Node) → Fresh (new_number nodes p) new → name_of new ≡ nm → IsWellFormed (insert_at p new nodes)
 inserted-well nodes p nm w i new f e =
-    let x = directory-of (get_or nodes p none) i.parent in
+    let x = directory-is (get_or nodes p none) i.parent in
     insert-sound nodes p (new_number nodes p) x.0 new w x.1 i.number (rw e (i.bytes, i.good)) f
 
 module _ (w : ℕ) (image : List ℕ) (l : Ledger) (K : Kept w image l) (words bytes : ℕ) (lent : words ≤ w) where

@@ -11,11 +11,11 @@ use Rattle.header.specs.Verdicts.{fst_offset, fst_size, fst_max_size, disc_end, 
 use Rattle.header.specs.Laws.FieldTests.{GoodHeader, Bounded}
 use Rattle.tree.specs.Table.{encode}
 use Rattle.tree.specs.Inner.WellFormed.{IsWellFormed}
-use Rattle.tree.proofs.Laws.WrittenBytes.{encode-all, be32-all}
+use Rattle.tree.proofs.Laws.WrittenBytes.{encode-all, be32-all, all_append}
 use Rattle.opened.specs.Opening.{table_of}
 use Rattle.opened.proofs.Laws.OpeningLaws.{span-bytes}
 use Rattle.edits.specs.Change.{Change, padded, with_table, written}
-use Rattle.edits.proofs.Laws.Puts.{Fits, put-length, put_all, put-else, span-length, zeros-all, append-all}
+use Rattle.edits.proofs.Laws.Puts.{Fits, put-length, put_all, put-else, span-length, zeros-all}
 
 -- the new table's end
 abbrev pub new_end : Change → List ℕ → ℕ
@@ -73,7 +73,7 @@ module _ (c : Change) (image : List ℕ) (s : Safe c image) where
 
   all₂ : AllBytes (image₂ c image)
   all₂ = put-bytes (image₁ c image) (fst_offset image) (padded (encode c.nodes) (fst_size image)) fits₂ all₁
-      (append-all (encode c.nodes) (replicate (fst_size image - length (encode c.nodes)) 0) (encode-all c.nodes s.well) (zeros-all (fst_size image - length (encode c.nodes))))
+      (all_append (encode c.nodes) (replicate (fst_size image - length (encode c.nodes)) 0) (encode-all c.nodes s.well) (zeros-all (fst_size image - length (encode c.nodes))))
 
   fits₃ : 0x428 + 4 ≤ length (image₂ c image)
   fits₃ = rw length₂ (omega (arith, s.header.whole))

@@ -16,7 +16,7 @@ all_cons : (b : ℕ) (s : List ℕ) → b < 256 → AllBytes s → AllBytes (b �
 all_cons b s h f zero = h
 all_cons b s h f (suc i) = f i
 
-all_append : (a b : List ℕ) → AllBytes a → AllBytes b → AllBytes (a ++ b)
+pub all_append : (a b : List ℕ) → AllBytes a → AllBytes b → AllBytes (a ++ b)
 all_append [] b f g = g
 all_append (x ∷ a) b f g = all_cons x (a ++ b) (f 0) (all_append a b (λ i. f (suc i)) g)
 
