@@ -12,9 +12,10 @@ use Rattle.tree.specs.Table.{Node, none, encode}
 use Rattle.tree.specs.Insert.{set_place}
 use Rattle.tree.proofs.Laws.WrittenEntries.{length-encode}
 use Rattle.space.specs.declared.region.DiscRegion.{DiscRegion}
+use Rattle.space.specs.Used.{no_region}
 use Rattle.opened.specs.Opening.{region_of, free_of}
 use Rattle.edits.specs.Change.{table_verdict, change}
-use Rattle.edits.specs.Edits.{no_place, table_only, relocate_verdict}
+use Rattle.edits.specs.Edits.{table_only, relocate_verdict}
 use Rattle.opened.specs.Inner.Disc.{Opened, Means}
 use Rattle.edit.specs.declared.decision.Writing.{Writing}
 use Rattle.edit.specs.declared.decision.Decision.TheVariants as decision
@@ -37,14 +38,14 @@ module _ (image : List ℕ) (d : Opened) (m : Means image d) where
     past : (c : Refusal) → r ≡ Err c → table_verdict (placing d.disc.nodes to) d.disc d.words (length bytes) ≡ Err c
     past c e = tests-refused _ (length (encode d.disc.nodes)) c (sym judged ∙ e)
 
-  module _ (bytes : List ℕ) (r : Result ℕ Refusal) (judged : r ≡ judged_size d (length bytes) no_place) where
+  module _ (bytes : List ℕ) (r : Result ℕ Refusal) (judged : r ≡ judged_size d (length bytes) no_region) where
     pub rewrite-refused : (c : Refusal) (after : List ℕ) → r ≡ Err c → Decided (change 0 (table_only d.disc.nodes)) image d.disc d.words (length bytes) after (Err c)
-    rewrite-refused c after e = refused-decided image d.disc d.words (length bytes) after (change 0 (table_only d.disc.nodes)) c (past bytes no_place r judged c e)
+    rewrite-refused c after e = refused-decided image d.disc d.words (length bytes) after (change 0 (table_only d.disc.nodes)) c (past bytes no_region r judged c e)
 
     pub rewrite-decided : (size : ℕ) (after : List ℕ) → r ≡ Ok size → after ≡ put bytes 0 (encode d.disc.nodes) →
         Decided (change 0 (table_only d.disc.nodes)) image d.disc d.words (length bytes) after (Ok (decision.Write 0 size nothing_besides))
     rewrite-decided size after e h =
-        let n = new_table image d m (length bytes) no_place r judged size e in
+        let n = new_table image d m (length bytes) no_region r judged size e in
         write-decided image d.disc d.words (length bytes) after 0 d.disc.nodes size nothing_besides
         (record { table = n.fits; inside = record { copied = record { from = λ z. omega arith; into = λ z. omega arith }; zeroed = record { into = λ z. omega arith } } }) n.passed
         (span-start bytes (encode d.disc.nodes) after size h n.held n.length-is)

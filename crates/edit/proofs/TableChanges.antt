@@ -1,5 +1,6 @@
 -- A change of the table alone as a plan: refused where there was no room for the table, and judged where it stands in the bytes. Assumes nothing.
 use Rattle.std.specs.Prelude.{Result, Ok, Err}
+use Rattle.space.specs.Used.{no_region}
 use Rattle.refusal.specs.Refusal.{Verdict, first}
 use Prim.Native.Nat.{ℕ, ◌<◌}
 use mathlib.Core.Path.{◌≡◌, sym, ap, ◌∙◌}
@@ -15,7 +16,7 @@ use Rattle.tree.proofs.Laws.Growing.{Bigger, bigger-limits, bigger-encode, limit
 use Rattle.table_writing.specs.Inner.Growth.{tree_in, Stands, IsBuilt}
 use Rattle.table_writing.proofs.StandingTable.{size_is, front}
 use Rattle.edits.specs.Change.{change, place_verdict}
-use Rattle.edits.specs.Edits.{table_only, no_place, plan_verdict}
+use Rattle.edits.specs.Edits.{table_only, plan_verdict}
 use Rattle.opened.specs.Opening.{Disc}
 use Rattle.opened.specs.Inner.Disc.{Opened}
 use Rattle.edit.specs.declared.decision.Decision.{Decision}
@@ -29,12 +30,12 @@ use Rattle.edit.proofs.Images.{table-tests, place-fits}
 
 unbuilt : (M F : List Node) (words room k : ℕ) (x : Disc) → Bigger M F → (limits M words ≡ Ok tt → room < length (encode M)) → plan_verdict (change k (table_only F)) x words room ≡ Err LimitOrMemory
 unfolding place_verdict
-unbuilt M F words room k x b h = table-tests F no_place x words room ∙ ⊎_elim fits past (limits-either F words)
+unbuilt M F words room k x b h = table-tests F no_region x words room ∙ ⊎_elim fits past (limits-either F words)
   where
-    past : limits F words ≡ Err LimitOrMemory → first (limits F words) (place_verdict x room (length (encode F)) no_place) ≡ Err LimitOrMemory
+    past : limits F words ≡ Err LimitOrMemory → first (limits F words) (place_verdict x room (length (encode F)) no_region) ≡ Err LimitOrMemory
     past e = rw e
 
-    fits : limits F words ≡ Ok tt → first (limits F words) (place_verdict x room (length (encode F)) no_place) ≡ Err LimitOrMemory
+    fits : limits F words ≡ Ok tt → first (limits F words) (place_verdict x room (length (encode F)) no_region) ≡ Err LimitOrMemory
     fits e = rw (e, lt-ltb room (length (encode F)) (omega (arith, h (bigger-limits M F words b e), bigger-encode M F b)))
 
 pub unbuilt-decides : (M F : List Node) (d : Opened) (k : ℕ) (s after : List ℕ) (c : Refusal) → Bigger M F → IsBuilt M d.words s s (Err c) → Decides (change k (table_only F)) d (length s) after (Err c)
@@ -42,9 +43,9 @@ unbuilt-decides M F d k s after c g b image m = refused-decided image d.disc d.w
 
 -- ---- a table that stands in the bytes: its place on the disc
 
-module _ (s : List ℕ) (size k : ℕ) (d : Opened) (st : Stands s size d.words) (v : Verdict) (judged : v ≡ place_verdict d.disc (length s) size no_place) where
+module _ (s : List ℕ) (size k : ℕ) (d : Opened) (st : Stands s size d.words) (v : Verdict) (judged : v ≡ place_verdict d.disc (length s) size no_region) where
   place-only : plan_verdict (change k (table_only (tree_in s size))) d.disc d.words (length s) ≡ v
-  place-only = table-tests (tree_in s size) no_place d.disc d.words (length s) ∙ rw (st.within, ← (size_is s size d.words st)) (sym judged)
+  place-only = table-tests (tree_in s size) no_region d.disc d.words (length s) ∙ rw (st.within, ← (size_is s size d.words st)) (sym judged)
 
   pub place-refuses : (c : Refusal) → v ≡ Err c → Decides (change k (table_only (tree_in s size))) d (length s) s (Err c)
   place-refuses c e image m = refused-decided image d.disc d.words (length s) s (change k (table_only (tree_in s size))) c (place-only ∙ e)
@@ -53,7 +54,7 @@ module _ (s : List ℕ) (size k : ℕ) (d : Opened) (st : Stands s size d.words)
   place-writes e image m =
       write-decided image d.disc d.words (length s) s k (tree_in s size) size nothing_besides
       (record {
-        table = place-fits image d.words m.known d.disc m.is (length s) size no_place (sym judged ∙ e);
+        table = place-fits image d.words m.known d.disc m.is (length s) size no_region (sym judged ∙ e);
         inside = record { copied = record { from = λ z. omega arith; into = λ z. omega arith }; zeroed = record { into = λ z. omega arith } };
       })
       (place-only ∙ e)

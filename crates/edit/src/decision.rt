@@ -30,7 +30,8 @@ pub struct Writing {
 
 impl Writing {
     /// No byte but the table's.
-    // Kept: places without bytes, and no `Option` (N): an empty file has such a place too, and `None` would mean the same.
+    // Kept: places without bytes, and no `Option` (N): an empty file has such a place too, and `None` would
+    // mean the same.
     pub const NOTHING: Writing = Writing {
         old: DiscRegion { offset: 0, size: 0 },
         place: DiscRegion { offset: 0, size: 0 },

@@ -18,7 +18,8 @@ use table_writing::Growing;
 // How many bytes a path may have.
 const PATH_LIMIT: usize = 1024;
 
-// Kept: a path and the entry that it starts from go side by side, as users give them; both calls use them once.
+// Kept: a path and the entry that it starts from go side by side, as users give them; both calls use them
+// once.
 // The tests that need no memory: a path over the limit 9, then 15, and the troubles along the path 13, 17,
 // 18, 12.
 #[tactic(auto, unfolding(crate::specs::Inner::Walk::path_verdict))]

@@ -1,4 +1,5 @@
-// The edits of an image: each is decided on an open disc, judged, entered in the record that is lent, and carried out.
+// The edits of an image: each is decided on an open disc, judged, entered in the record that is lent, and
+// carried out.
 #![tactic(auto)]
 
 mod account;

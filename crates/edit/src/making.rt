@@ -38,10 +38,11 @@ fn step(table: &mut Growing<'_>, entry: usize, name: &[u8]) -> Result<usize, Ref
 /// for a directory, since there is none for the whole then.
 pub fn make_along(table: &mut Growing<'_>, start: usize, path: &[u8]) -> Result<usize, Refusal>
     requires start_inside { start < length (tree_of table.old) }
-    requires untroubled { let whole = make (tree_of table.old) [] start false (components path.now) in
-        made_verdict whole ≡ Ok tt }
-    ensures reaches { let room = length table.old.bytes.now in
-        Reaches (make (tree_of table.old) [] start false (components path.now)) room table.new result }
+    requires untroubled { let parts = components path.now in
+        made_verdict (make (tree_of table.old) [] start false parts) ≡ Ok tt }
+    ensures reaches { let parts = components path.now in
+        let room = length table.old.bytes.now in
+        Reaches (make (tree_of table.old) [] start false parts) room table.new result }
     ensures same_words { table.new.words ≡ table.old.words }
     ensures same_length { length table.new.bytes.now ≡ length table.old.bytes.now }
     ensures same_reference { table.new.bytes.ghost_name ≡ table.old.bytes.ghost_name }

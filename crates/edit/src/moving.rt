@@ -17,11 +17,12 @@ use opened::OpenDisc;
 use refusal::{Refusal, Verdict};
 use space::DiscRegion;
 
-// Kept: the disc, which is read, and the bytes, which are written, go side by side here and in `resizing`: each contract names the two, and a
-// value that held both would say nothing more.
+// Kept: the disc, which is read, and the bytes, which are written, go side by side here and in `resizing`:
+// each contract names the two, and a value that held both would say nothing more.
 /// The tree as it is, written anew; refused by the tests of its table alone.
 pub fn rewrite(disc: &OpenDisc<'_>, bytes: &mut [u8]) -> Result<Decision, Refusal>
-    ensures { Decides (plan_of edits_of.rewrite disc.now.disc) disc.now (length bytes.old) bytes.new result }
+    ensures { let plan = plan_of edits_of.rewrite disc.now.disc in
+        Decides plan disc.now (length bytes.old) bytes.new result }
 {
     let size = place::check_table(disc, bytes.len(), Writing::NOTHING.place)?;
     place::write_table(disc.table(), bytes);
@@ -41,8 +42,10 @@ pub(crate) fn set_place(
 ) -> Result<Decision, Refusal>
     requires is_file { IsFile disc.now.disc.nodes number }
     requires inside { (image : List ℕ) → Means image disc.now → InImage (length image) writing }
-    ensures { let nodes = insert_of.set_place number writing.place.offset writing.place.size disc.now.disc.nodes in
-        Decides (change number (change_with nodes writing)) disc.now (length bytes.old) bytes.new result }
+    ensures { let place = writing.place in
+        let nodes = insert_of.set_place number place.offset place.size disc.now.disc.nodes in
+        let plan = change number (change_with nodes writing) in
+        Decides plan disc.now (length bytes.old) bytes.new result }
 {
     let place = writing.place;
     let size = place::check_table(disc, bytes.len(), place)?;
@@ -98,7 +101,8 @@ pub(crate) fn relocate(
     new: DiscRegion,
 ) -> Result<Decision, Refusal>
     requires { IsFileOf disc.now file }
-    ensures { let moved = change file.number (relocated disc.now.disc.nodes file.number file.place new) in
+    ensures { let nodes = disc.now.disc.nodes in
+        let moved = change file.number (relocated nodes file.number file.place new) in
         let plan = planned (relocate_verdict (free_of disc.now.disc) file.place new) moved in
         Decides plan disc.now (length bytes.old) bytes.new result }
 {

@@ -77,8 +77,8 @@ pub fn decide(disc: &OpenDisc<'_>, bytes: &mut [u8], edit: Edit<'_>) -> Result<D
 }
 
 // What is decided on, entered in the record: 25 comes last.
-// Kept: `image`, `words`, `bytes`, `totals` one by one, here and below (N): each is written or zeroed apart from the others, and a
-// struct of four `&mut` would have each contract name the loan of each field.
+// Kept: `image`, `words`, `bytes`, `totals` one by one, here and below (N): each is written or zeroed apart
+// from the others, and a struct of four `&mut` would have each contract name the loan of each field.
 fn decide_image(
     image: &[u8],
     words: &mut [u32],

@@ -33,7 +33,8 @@ fn resize_in_place(
     new_size: u32,
 ) -> Result<Decision, Refusal>
     requires { IsFileOf disc.now file }
-    ensures { let plan = change file.number (resized disc.now.disc.nodes file.number file.place new_size) in
+    ensures { let nodes = disc.now.disc.nodes in
+        let plan = change file.number (resized nodes file.number file.place new_size) in
         Decides plan disc.now (length bytes.old) bytes.new result }
 {
     let old = file.place;
@@ -82,7 +83,8 @@ pub fn resize(
     new_size: u32,
 ) -> Result<Decision, Refusal>
     requires { IsFileOf disc.now file }
-    ensures { let plan = plan_sized (free_of disc.now.disc) disc.now.disc.nodes file.number file.place new_size in
+    ensures { let d = disc.now.disc in
+        let plan = plan_sized (free_of d) d.nodes file.number file.place new_size in
         Decides plan disc.now (length bytes.old) bytes.new result }
 {
     if new_size == file.place.size {

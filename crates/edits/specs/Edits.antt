@@ -11,6 +11,7 @@ use Rattle.tree.specs.Table.{Node, none, plain, safe}
 use Rattle.tree.specs.Lookup.{is_directory, next_of, components, stays, goes_back, child_of}
 use Rattle.tree.specs.Insert.{insert_at, set_place, empty_file, empty_directory}
 use Rattle.space.specs.declared.region.DiscRegion.{DiscRegion}
+use Rattle.space.specs.Used.{no_region}
 use Rattle.space.specs.Free.{largest_size}
 use Rattle.space.specs.MaxRegionSize.{max_region_size}
 use Rattle.space.specs.Allocate.{allocation_of}
@@ -29,12 +30,9 @@ pub data Edit : Type 0 where
   fill_file : ℕ → List ℕ → Edit
   rewrite : Edit
 
-abbrev pub no_place : DiscRegion
-no_place = record { offset = 0; size = 0 }
-
 -- only the table is written
 abbrev pub table_only : List Node → Change
-table_only nodes = record { nodes = nodes; old = no_place; place = no_place; kept = 0; lost = no_place }
+table_only nodes = record { nodes = nodes; old = no_region; place = no_region; kept = 0; lost = no_region }
 
 -- a plan behind tests
 abbrev pub planned : Verdict → Plan → Plan

@@ -5,6 +5,7 @@ use Rattle.std.specs.Prelude.{ℕ, ◌+◌, max, Bool, ◌&&◌, List, Option, N
 use Rattle.std.specs.Result.{result_and}
 use Rattle.header.specs.Verdicts.{dol_offset, fst_offset}
 use Rattle.space.specs.declared.region.DiscRegion.{DiscRegion}
+use Rattle.space.specs.Used.{no_region}
 use Rattle.executable.specs.Dol.{dol_header_of, file_size_of, dol_verdict_of}
 
 -- the region of a program, none where there is no program, or the cause for which its header is refused
@@ -24,13 +25,9 @@ program_verdict p = result_and p (Ok tt)
 
 -- ---- where it lies
 
--- a region without a byte
-abbrev pub nowhere : DiscRegion
-nowhere = record { offset = 0; size = 0 }
-
 abbrev pub place_of : Program → DiscRegion
-place_of (Ok region) = unwrap_or region nowhere
-place_of (Err c) = nowhere
+place_of (Ok region) = unwrap_or region no_region
+place_of (Err c) = no_region
 
 unfoldable pub program_in : List ℕ → DiscRegion
 program_in image = place_of (program_of image)
@@ -41,7 +38,7 @@ before_table fst r = nat_le 0x440 r.offset && nat_le (r.offset + r.size) fst
 
 -- wherever else it lies, a used region of its own: one that begins before the table's end overlaps the bytes before it
 unfoldable pub own_region : ℕ → DiscRegion → DiscRegion
-own_region fst r = if before_table fst r then nowhere else r
+own_region fst r = if before_table fst r then no_region else r
 
 abbrev pub program_behind : List ℕ → DiscRegion
 program_behind image = own_region (fst_offset image) (program_in image)

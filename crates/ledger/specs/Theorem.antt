@@ -8,7 +8,7 @@ use Rattle.std.specs.Prelude.{ℕ, ◌+◌, ◌<◌, ◌≤◌, ◌≡◌, true,
 use Rattle.endian.specs.Bytes.{put, span, AllBytes}
 use Rattle.header.specs.Verdicts.{dol_offset, fst_size, fst_max_size, table_end, disc_end}
 use Rattle.tree.specs.Table.{file, none}
-use Rattle.space.specs.Used.{end_of, inside, total_size}
+use Rattle.space.specs.Used.{end_of, inside, total_size, no_region}
 use Rattle.space.specs.Listing.{region_row, listing_of, list_after}
 use Rattle.executable.specs.Program.{program_of, program_in, program_behind}
 use Rattle.space.specs.declared.totals.Totals.{Totals}
@@ -16,7 +16,7 @@ use Rattle.opened.specs.Opening.{table_of, nodes_in, region_of, used_in, free_sp
 use Rattle.disc.specs.Calls.{totals_answer, program_answer, free_regions_answer, free_regions_list, totals_of, record_answer}
 use Rattle.window.specs.Window.{new_window, count_of, buffer_of}
 use Rattle.disc.specs.Files.{open_file_answer}
-use Rattle.edits.specs.Edits.{fill_file, no_place, verdict_of, image_after}
+use Rattle.edits.specs.Edits.{fill_file, verdict_of, image_after}
 use Rattle.ledger.specs.Ledger.{Ledger, bare, files_before, history_of, first_ledger, ledger_after}
 use Rattle.ledger.specs.Runs.{Call, image_after_all, reports_of, totals_after_all, HandedOn, accepted_in, AllWithin}
 use Rattle.ledger.specs.Spared.{number_after, Spared}
@@ -45,7 +45,7 @@ pub record LedgerHolds (w : ℕ) (first image : List ℕ) (l : Ledger) : Type 0 
   -- opening reads the ledger's names, kinds, nesting, order and sizes
   pub tree : map bare (nodes_in image) ≡ l.nodes
   -- no two used regions share a byte: used regions i and j that both have byte n are one
-  pub apart : (i j n : ℕ) → inside (slice_index_or (used_in image) i no_place) n ≡ true → inside (slice_index_or (used_in image) j no_place) n ≡ true → i ≡ j
+  pub apart : (i j n : ℕ) → inside (slice_index_or (used_in image) i no_region) n ≡ true → inside (slice_index_or (used_in image) j no_region) n ≡ true → i ≡ j
   -- table end + the program where it is a region of its own + all file sizes + all free bytes = disc end
   pub sum : table_end image + (program_behind image).size + total_size (map region_of (nodes_in image)) + total_size (free_space_of image) ≡ disc_end image
   -- what is reported of used and free bytes is what is defined of them

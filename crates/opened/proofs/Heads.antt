@@ -14,7 +14,8 @@ use Rattle.refusal.specs.declared.Refusal.{Refusal}
 use Rattle.executable.specs.Dol.{words_at, dol_header_of, file_size_of}
 use Rattle.opened.proofs.Laws.OpeningLaws.{be32-span}
 use Rattle.space.specs.declared.region.DiscRegion.{DiscRegion}
-use Rattle.executable.specs.Program.{Program, program_of, program_verdict, nowhere}
+use Rattle.space.specs.Used.{no_region}
+use Rattle.executable.specs.Program.{Program, program_of, program_verdict}
 use Rattle.executable.specs.Inner.Reading.{program_at}
 use Rattle.opened.specs.Inner.Parts.{Heads, own_as}
 
@@ -107,7 +108,7 @@ program_past image at p h = rw (← p, lt-ltb (length image) (at + 0xE4) h) refl
 
 passed_place : Result DiscRegion Refusal → DiscRegion
 passed_place (Ok own) = own
-passed_place (Err c) = nowhere
+passed_place (Err c) = no_region
 
 passed_verdict : Result DiscRegion Refusal → Verdict
 passed_verdict (Ok own) = Ok tt

@@ -13,7 +13,7 @@ use Rattle.header.specs.Laws.FieldTests.{Bounded}
 use Rattle.header.specs.Verdicts.{fst_offset, disc_end, table_end}
 use Rattle.tree.specs.Table.{count}
 use Rattle.space.specs.declared.region.DiscRegion.{DiscRegion}
-use Rattle.space.specs.Used.{nonempty}
+use Rattle.space.specs.Used.{nonempty, no_region}
 use Rattle.space.specs.Inner.Words.{AllNonempty}
 use Rattle.space.specs.Laws.UsedLaws.{nonempty-all}
 use Rattle.space.specs.Inner.Sort.{regions_in, sum_of}
@@ -22,7 +22,7 @@ use Rattle.space.specs.Layout.{disjoint_below, regions_verdict}
 use Rattle.space.specs.Free.{free_regions}
 use Rattle.space.specs.Laws.MiddleLaws.{below-middle, free-middle, sum-middle, used-middle-same}
 use Rattle.space.specs.Laws.SortLaws.{sum-sorted}
-use Rattle.executable.specs.Program.{program_of, program_verdict, nowhere, program_in, own_region, program_behind}
+use Rattle.executable.specs.Program.{program_of, program_verdict, program_in, own_region, program_behind}
 use Rattle.opened.specs.Opening.{table_of, nodes_in, behind_table, used_in, layout_verdict, opening}
 use Rattle.opened.specs.Inner.Prepared.{verdict_before24, entry_regions, CollectedUsed, SameUse, UsedWords, IsReadable, IsOpen}
 use Rattle.opened.proofs.Laws.OpeningLaws.{opens, opening-split, program-first}
@@ -78,7 +78,7 @@ regions-room image n n' m c k e b l = omega (arith, k.table.room)
 pub refused-24 : (image : List ℕ) (words : ℕ) (c : Refusal) → verdict_before24 image words ≡ Ok tt → program_verdict (program_of image) ≡ Err c → opening image words ≡ Err c
 refused-24 image words c before h = opening-split image words ∙ rw before (program-first image c h)
 
-pub own_is : (image : List ℕ) (p : Option DiscRegion) (fst : ℕ) (r : DiscRegion) → Ok p ≡ program_of image → fst ≡ fst_offset image → r ≡ own_region fst (unwrap_or p nowhere) → r ≡ program_behind image
+pub own_is : (image : List ℕ) (p : Option DiscRegion) (fst : ℕ) (r : DiscRegion) → Ok p ≡ program_of image → fst ≡ fst_offset image → r ≡ own_region fst (unwrap_or p no_region) → r ≡ program_behind image
 unfolding program_in
 own_is image p fst r e f h = rw (← e, ← f) h
 

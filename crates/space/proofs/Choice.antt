@@ -11,9 +11,9 @@ use borrow.Author.Tests.{le-leb, lt-leb, lt-ltb, le-ltb, eq-eqb, ne_eqb}
 use lib.Dec.{leb, eqb}
 use Rattle.space.specs.declared.region.DiscRegion.{DiscRegion}
 use Rattle.refusal.specs.declared.Refusal.TheVariants.{NotEnoughSpace, InvalidAlignment}
-use Rattle.space.specs.Used.{end_of}
+use Rattle.space.specs.Used.{end_of, no_region}
 use Rattle.space.specs.MaxRegionSize.{inside_free, beside_free, max_size_from}
-use Rattle.space.specs.Allocate.{rest, fits, better_of, no_region, largest, powers, allocation_of}
+use Rattle.space.specs.Allocate.{rest, fits, better_of, largest, powers, allocation_of}
 use Rattle.space.specs.Inner.Found.{found_or_none}
 
 -- ---- the better of two

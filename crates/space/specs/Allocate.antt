@@ -4,7 +4,7 @@ use Rattle.std.specs.Prelude.{ℕ, zero, suc, ◌-◌, ◌^◌, Bool, false, ◌
 use Rattle.refusal.specs.declared.Refusal.TheVariants.{NotEnoughSpace, InvalidAlignment}
 use Rattle.space.specs.declared.region.DiscRegion.{DiscRegion}
 use Rattle.std.specs.List.{fold}
-use Rattle.space.specs.Used.{end_of}
+use Rattle.space.specs.Used.{end_of, no_region}
 use Rattle.space.specs.Align.{align_up}
 
 -- what a free region has from its first multiple on
@@ -18,9 +18,6 @@ fits align wish r = nat_lt 0 (rest align r).size && nat_le wish (rest align r).s
 -- the better of the best so far and the rest of r; r among equals
 unfoldable pub better_of : ℕ → ℕ → DiscRegion → DiscRegion → DiscRegion
 better_of align wish best r = if fits align wish r && nat_le best.size (rest align r).size then rest align r else best
-
-abbrev pub no_region : DiscRegion
-no_region = record { offset = 0; size = 0 }
 
 -- the largest rest, of equal ones the last; `best` is the best so far
 unfoldable pub largest : ℕ → ℕ → DiscRegion → List DiscRegion → DiscRegion

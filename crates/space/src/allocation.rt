@@ -2,8 +2,8 @@
 ghost use Rattle.std.specs.Prelude.{◌≡◌, ◌<◌, if◌then◌else◌, unwrap_or};
 ghost use Rattle.std.specs.Option.{ForSome};
 ghost use Rattle.space.specs.Align.{align_up};
-ghost use Rattle.space.specs.Used.{end_of};
-ghost use Rattle.space.specs.Allocate.{rest, fits, no_region, better_of};
+ghost use Rattle.space.specs.Used.{end_of, no_region};
+ghost use Rattle.space.specs.Allocate.{rest, fits, better_of};
 
 use crate::region::DiscRegion;
 

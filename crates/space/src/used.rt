@@ -1,12 +1,12 @@
 // The used regions of a disc as a value: what stands in lent words after a test. Contracts see the list and
 // the disc's end.
 ghost use Rattle.std.specs.Prelude.{◌≡◌, ◌<◌, length};
-ghost use Rattle.space.specs.Used.{total_size};
+ghost use Rattle.space.specs.Used.{total_size, no_region};
 ghost use Rattle.space.specs.Inner.Words.{IsSortedDisjoint};
 ghost use Rattle.space.specs.Inner.Found.{found_or_none};
 ghost use Rattle.space.specs.Inner.UsedSpace.{used_in, free_in};
 ghost use Rattle.space.specs.MaxRegionSize.{max_region_size};
-ghost use Rattle.space.specs.Allocate.{no_region, largest, allocation_of};
+ghost use Rattle.space.specs.Allocate.{largest, allocation_of};
 ghost use Rattle.space.specs.Listing.{listing_of, list_after};
 
 use crate::free::FreeRegions;

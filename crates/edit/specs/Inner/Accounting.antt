@@ -4,6 +4,7 @@ use Rattle.refusal.specs.declared.Refusal.{Refusal}
 use Rattle.refusal.specs.Refusal.{Verdict, is_refused}
 use Rattle.header.specs.Verdicts.{fst_offset, fst_size, disc_end}
 use Rattle.space.specs.declared.region.DiscRegion.{DiscRegion}
+use Rattle.space.specs.Used.{no_region}
 use Rattle.space.specs.Inner.Sort.{regions_in}
 use Rattle.opened.specs.Inner.Prepared.{IsOpen}
 use Rattle.opened.specs.Opening.{Disc}
@@ -12,7 +13,7 @@ use Rattle.space.specs.declared.totals.Totals.{Totals}
 use Rattle.space.specs.Totals.{totals_verdict, totals_moved}
 use Rattle.space.specs.Inner.Scan.{longest_from, gone_of, Moved, moved_as}
 use Rattle.edits.specs.Change.{Plan}
-use Rattle.edits.specs.Edits.{no_place, plan_image, counted_verdict, totals_to}
+use Rattle.edits.specs.Edits.{plan_image, counted_verdict, totals_to}
 use Rattle.edit.specs.declared.decision.Decision.{Decision}
 use Rattle.edit.specs.declared.decision.Decision.TheVariants as decision
 use Rattle.edit.specs.Inner.Decision.{DecidedAs}
@@ -59,8 +60,8 @@ entered_as image xs t size old new =
 
 -- by what is decided on
 abbrev pub entered_for : List ℕ → List DiscRegion → Decision → Totals → Moved
-entered_for image xs decision.Nothing t = entered_as image xs t (fst_size image) no_place no_place
-entered_for image xs (decision.Clip n at) t = entered_as image xs t (fst_size image) no_place no_place
+entered_for image xs decision.Nothing t = entered_as image xs t (fst_size image) no_region no_region
+entered_for image xs (decision.Clip n at) t = entered_as image xs t (fst_size image) no_region no_region
 entered_for image xs (decision.Write n size w) t = entered_as image xs t size w.old w.place
 
 abbrev pub account_of : List ℕ → List DiscRegion → Result Decision Refusal → Totals → Accounted

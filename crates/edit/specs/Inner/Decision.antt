@@ -7,11 +7,12 @@ use Rattle.endian.specs.Bytes.{put, span}
 use Rattle.header.specs.Verdicts.{fst_offset, fst_size}
 use Rattle.tree.specs.Table.{Node, encode}
 use Rattle.space.specs.declared.region.DiscRegion.{DiscRegion}
+use Rattle.space.specs.Used.{no_region}
 use Rattle.edit.specs.declared.decision.Writing.{Writing}
 use Rattle.edit.specs.declared.decision.Decision.{Decision}
 use Rattle.edit.specs.declared.decision.Decision.TheVariants as decision
 use Rattle.edits.specs.Change.{Change, with_table, table_verdict, Plan, refused, nothing, change, filled}
-use Rattle.edits.specs.Edits.{no_place, plan_verdict, plan_image}
+use Rattle.edits.specs.Edits.{plan_verdict, plan_image}
 use Rattle.opened.specs.Opening.{Disc}
 use Rattle.opened.specs.Inner.Disc.{Opened, Means}
 
@@ -22,11 +23,11 @@ change_with nodes w = record { nodes = nodes; old = w.old; place = w.place; kept
 
 -- no byte but the table's
 abbrev pub nothing_besides : Writing
-nothing_besides = record { old = no_place; place = no_place; kept = 0; lost = record { offset = 0; size = 0 } }
+nothing_besides = record { old = no_region; place = no_region; kept = 0; lost = record { offset = 0; size = 0 } }
 
 -- a change with a place, for the tests of its table
 abbrev pub placing : List Node → DiscRegion → Change
-placing nodes place = record { nodes = nodes; old = no_place; place = place; kept = 0; lost = no_place }
+placing nodes place = record { nodes = nodes; old = no_region; place = place; kept = 0; lost = no_region }
 
 -- the image with the change written, where the table's bytes are these
 unfoldable pub written_with : Writing → List ℕ → List ℕ → List ℕ

@@ -8,7 +8,7 @@ use Rattle.refusal.specs.declared.Refusal.{Refusal}
 use Rattle.header.specs.Verdicts.{fst_offset, fst_size, disc_end, table_end}
 use Rattle.tree.specs.Table.{encode}
 use Rattle.space.specs.declared.region.DiscRegion.{DiscRegion}
-use Rattle.space.specs.Used.{used_regions, total_size}
+use Rattle.space.specs.Used.{used_regions, total_size, no_region}
 use Rattle.space.specs.Free.{largest_size}
 use Rattle.space.specs.Inner.Sort.{regions_in}
 use Rattle.space.specs.Laws.TotalLaws.{total-used}
@@ -22,7 +22,7 @@ use Rattle.opened.specs.Opening.{nodes_in, behind_table, used_in, used_of, free_
 use Rattle.opened.proofs.Laws.OpeningLaws.{used-regions}
 use Rattle.opened.specs.Inner.Prepared.{OpenImage, IsOpen}
 use Rattle.edits.specs.Change.{Change, table_verdict, Plan, refused, nothing, change, filled}
-use Rattle.edits.specs.Edits.{no_place, plan_verdict, totals_to}
+use Rattle.edits.specs.Edits.{plan_verdict, totals_to}
 use Rattle.ledger.proofs.Laws.Files.{places_in, used-files}
 use Rattle.ledger.proofs.Laws.Opened.{opened}
 use Rattle.ledger.proofs.Laws.Room as room-law
@@ -105,8 +105,8 @@ module _ (image w : List ℕ) (m room : ℕ) (bytes : List ℕ) (long : length b
 
   -- nothing is written but a clip
   none-entered : (p : Plan) (d : Decision) → Ok tt ≡ plan_verdict p (disc_of image) (length w) room → Lays nothing image image' →
-      IsEntered (tested p) (Ok d) t (totals_to t image image') (settled_as d (entered_as image (regions_in w 1 (m - 1)) t (fst_size image) no_place no_place))
-  none-entered p d h l = moved-entered p d _ h (ap (settled_as d) (moves image w m o image' (fst_size image) no_place no_place l.0 t))
+      IsEntered (tested p) (Ok d) t (totals_to t image image') (settled_as d (entered_as image (regions_in w 1 (m - 1)) t (fst_size image) no_region no_region))
+  none-entered p d h l = moved-entered p d _ h (ap (settled_as d) (moves image w m o image' (fst_size image) no_region no_region l.0 t))
 
   -- a table is
   write-entered : (p : Plan) (k : ℕ) (c : Change) (n size : ℕ) (x : Writing) → Ok tt ≡ plan_verdict p (disc_of image) (length w) room → Lays (change k c) image image' → length (encode c.nodes) ≡ size → c.old ≡ x.old → c.place ≡ x.place →

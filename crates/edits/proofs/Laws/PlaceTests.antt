@@ -12,14 +12,13 @@ use Rattle.refusal.specs.Laws.Chains.{refuse-passed}
 use Rattle.refusal.specs.Laws.Tests.{or-false}
 use Rattle.header.specs.Verdicts.{fst_offset, fst_size, fst_max_size}
 use Rattle.space.specs.declared.region.DiscRegion.{DiscRegion}
-use Rattle.space.specs.Used.{uses_byte, used_regions}
+use Rattle.space.specs.Used.{uses_byte, used_regions, no_region}
 use Rattle.space.specs.Free.{free_in}
 use Rattle.space.specs.Laws.UsedLaws.{used-is}
 use Rattle.space.specs.Laws.FreeLaws.{In}
 use Rattle.space.specs.MaxRegionSize.{max_region_size}
 use Rattle.opened.specs.Opening.{free_space_of, disc_of}
 use Rattle.edits.specs.Change.{above_maximum, room_verdict, place_verdict}
-use Rattle.edits.specs.Edits.{no_place}
 
 -- ---- the stated maximum
 
@@ -62,7 +61,7 @@ place-passed image room size place e =
     }
 
 -- a region of a list, by its number
-pub in-region : (fs : List DiscRegion) (r : ℕ) → r < length fs → In (get_or fs r no_place) fs
+pub in-region : (fs : List DiscRegion) (r : ℕ) → r < length fs → In (get_or fs r no_region) fs
 in-region [] r h = absurd (omega arith)
 in-region (x ∷ fs) zero h = inl refl
 in-region (x ∷ fs) (suc r) h = inr (in-region fs r (omega arith))

@@ -9,15 +9,15 @@ use Rattle.endian.specs.Laws.Stored.{Same}
 use Rattle.refusal.specs.Laws.Tests.{and_left, and_right}
 use Rattle.header.specs.Verdicts.{dol_offset}
 use Rattle.space.specs.declared.region.DiscRegion.{DiscRegion}
-use Rattle.space.specs.Used.{end_of}
+use Rattle.space.specs.Used.{end_of, no_region}
 use Rattle.executable.specs.Dol.{dol_header_of, file_size_of, dol_verdict_of}
 use Rattle.executable.specs.Laws.DolFacts.{header-same}
-use Rattle.executable.specs.Program.{program_from, program_of, program_verdict, nowhere, program_in, before_table, own_region}
+use Rattle.executable.specs.Program.{program_from, program_of, program_verdict, program_in, before_table, own_region}
 
 -- ---- accepted: there is none, or it lies at the DOL offset
 
 pub data Accepted (image : List ℕ) : Type 0 where
-  absent : dol_offset image ≡ 0 → program_in image ≡ nowhere → Accepted image
+  absent : dol_offset image ≡ 0 → program_in image ≡ no_region → Accepted image
   present : (dol_offset image ≡ 0 → ⊥) → dol_verdict_of image (dol_offset image) ≡ Ok tt → program_in image ≡ program_from image (dol_offset image) → Accepted image
 
 pub accepted : (image : List ℕ) → program_verdict (program_of image) ≡ Ok tt → Accepted image
@@ -31,11 +31,11 @@ accepted image p = go (eqb (dol_offset image) 0) refl (dol_verdict_of image (dol
 
 -- ---- its own region: none where it lies before the table, and else the whole of it
 
-pub own-cases : (fst : ℕ) (r : DiscRegion) → ((0x440 ≤ r.offset) × (end_of r ≤ fst) × (own_region fst r ≡ nowhere)) ⊎ (own_region fst r ≡ r)
+pub own-cases : (fst : ℕ) (r : DiscRegion) → ((0x440 ≤ r.offset) × (end_of r ≤ fst) × (own_region fst r ≡ no_region)) ⊎ (own_region fst r ≡ r)
 unfolding own_region
 own-cases fst r = go (before_table fst r) refl
   where
-    go : (b : Bool) → before_table fst r ≡ b → ((0x440 ≤ r.offset) × (end_of r ≤ fst) × (cond b nowhere r ≡ nowhere)) ⊎ (cond b nowhere r ≡ r)
+    go : (b : Bool) → before_table fst r ≡ b → ((0x440 ≤ r.offset) × (end_of r ≤ fst) × (cond b no_region r ≡ no_region)) ⊎ (cond b no_region r ≡ r)
     go true e = inl (leb-true _ _ (and_left (leb 0x440 r.offset) (leb (end_of r) fst) e), leb-true _ _ (and_right (leb 0x440 r.offset) (leb (end_of r) fst) e), refl)
     go false e = inr refl
 

@@ -4,13 +4,12 @@ use Rattle.std.specs.Prelude.{ℕ, zero, suc, ◌+◌, ◌-◌, ◌<◌, ◌≤�
 use Rattle.std.proofs.Common.{sym, ap, ◌∙◌, inl, inr, ⊎_elim, arith, leb-true, eqb-true, le-leb, get_or-set_same, get_or-set_other}
 use Rattle.std.proofs.lemmas.Bool.{false≢true, eqb-false}
 use Rattle.space.specs.declared.region.DiscRegion.{DiscRegion}
-use Rattle.space.specs.Used.{end_of, inside, uses_byte, used_regions}
+use Rattle.space.specs.Used.{end_of, inside, uses_byte, used_regions, no_region}
 use Rattle.space.specs.Layout.{disjoint_from_all, pairwise_disjoint, disjoint_below}
 use Rattle.space.specs.Free.{free_in}
 use Rattle.refusal.specs.Laws.Tests.{lt-or-le, and_left, and_right, and_both, or_cases, or_left, or_right, is_false, never_both}
 use Rattle.space.specs.Laws.UsedLaws.{inside-in, lies_within, files_within, disjoint-below-used}
 use Rattle.space.specs.Laws.LayoutLaws.{inside-from, inside-to, from-all-free, free-from-all}
-use Rattle.edits.specs.Edits.{no_place}
 use Rattle.edits.proofs.Laws.PlaceTests.{free-byte}
 
 -- byte i is one of the region's
@@ -19,7 +18,7 @@ Has r i = (r.offset ≤ i) × (i < r.offset + r.size)
 
 -- region k of a list; past its end an empty one
 abbrev pub region : List DiscRegion → ℕ → DiscRegion
-region fs k = get_or fs k no_place
+region fs k = get_or fs k no_region
 
 -- the table ends at t, the disc at e
 pub record Apart (t e : ℕ) (fs : List DiscRegion) : Type 0 where
@@ -113,8 +112,8 @@ module _ (t e : ℕ) (fs : List DiscRegion) (a : Apart t e fs) (r : ℕ) (y : Di
   here k = go (eqb k r) refl
     where
       go : (b : Bool) → eqb k r ≡ b → ((k ≡ r) × (region (set fs r y) k ≡ y)) ⊎ ((k ≡ r → ⊥) × (region (set fs r y) k ≡ region fs k))
-      go true q = let e' : k ≡ r = eqb-true k r q in inl (e', rw e' (get_or-set_same fs r y no_place inb))
-      go false q = inr (eqb-false k r q, get_or-set_other fs r k y no_place (eqb-false k r q))
+      go true q = let e' : k ≡ r = eqb-true k r q in inl (e', rw e' (get_or-set_same fs r y no_region inb))
+      go false q = inr (eqb-false k r q, get_or-set_other fs r k y no_region (eqb-false k r q))
 
   pub apart-set : Apart t e (set fs r y)
   apart-set = record {

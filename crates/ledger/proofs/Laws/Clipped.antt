@@ -1,6 +1,7 @@
 -- A clip put over a file, as long as the file: the image opens with the same tree and program, every other file stays, and the file is the clip.
 -- Assumes nothing.
 use Rattle.std.specs.Prelude.{ℕ, suc, ◌+◌, ◌-◌, ◌<◌, ◌≤◌, ◌≡◌, refl, false, List, [], ◌∷◌, length, get_or, set}
+use Rattle.space.specs.Used.{no_region}
 use Rattle.std.proofs.Common.{ap, ⊎_elim, true≢false, arith}
 use Rattle.std.proofs.lemmas.List.{set-get_or}
 use Rattle.endian.specs.Bytes.{put, span, be32, AllBytes}
@@ -10,7 +11,6 @@ use Rattle.tree.specs.Table.{none}
 use Rattle.tree.specs.Lookup.{is_directory}
 use Rattle.opened.specs.Opening.{nodes_in, free_space_of, used_of}
 use Rattle.edits.specs.Change.{Plan}
-use Rattle.edits.specs.Edits.{no_place}
 use Rattle.ledger.specs.Ledger.{History, Ledger, refilled}
 use Rattle.edits.proofs.Laws.Puts.{Fits, put-length, put_all, put-else, put-below, field_below}
 use Rattle.ledger.proofs.Laws.Files.{files_in, places_in}
@@ -117,6 +117,6 @@ module _ (w : ℕ) (image : List ℕ) (l : Ledger) (K : Kept w image l) (k : ℕ
         bytes = put_all image (place_in image k).offset clip fits K.bytes bytes;
         opens = opens-same image (with_clip image k clip) alike o w K.opens;
         shape = rw tree-clipped K.shape;
-        trues = rw tree-clipped (rw (set-get_or (files_in image) r no_place) at (trues-set image (with_clip image k clip) r (region (files_in image) r) (refilled clip h) (files_in image) l.histories
+        trues = rw tree-clipped (rw (set-get_or (files_in image) r no_region) at (trues-set image (with_clip image k clip) r (region (files_in image) r) (refilled clip h) (files_in image) l.histories
             (λ j d. others_same (suc j) (λ e. d (omega arith))) (rw p (file-clipped h)) K.trues));
       }

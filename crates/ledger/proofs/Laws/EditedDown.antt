@@ -13,13 +13,14 @@ use Rattle.tree.proofs.Laws.Accepted.{length-nodes_of}
 use Rattle.tree.proofs.Laws.RoundTrip.{limits-within}
 use Rattle.tree.proofs.Laws.WrittenEntries.{length-encode}
 use Rattle.space.specs.MaxRegionSize.{max_region_size}
+use Rattle.space.specs.Used.{no_region}
 use Rattle.space.specs.Laws.GrowthLaws.{table-largest}
 use Rattle.opened.specs.Opening.{table_of, nodes_in, free_space_of, opening, disc_of}
 use Rattle.opened.specs.Inner.Prepared.{OpenImage}
 use Rattle.opened.proofs.Laws.OpeningLaws.{opens}
 use Rattle.disc.specs.Calls.{totals_of}
 use Rattle.edits.specs.Change.{table_verdict}
-use Rattle.edits.specs.Edits.{no_place, rewrite, plan_of, plan_verdict, verdict_of, image_after}
+use Rattle.edits.specs.Edits.{rewrite, plan_of, plan_verdict, verdict_of, image_after}
 use Rattle.edits.proofs.Laws.PlaceTests.{stated-apart}
 use Rattle.ledger.proofs.Laws.Files.{places_in}
 use Rattle.ledger.proofs.Laws.RecordTells.{own-record}
@@ -51,7 +52,7 @@ module _ (image : List ℕ) (words bytes : ℕ) (b : AllBytes image) (e : openin
   unfolding table_verdict
   passes =
       let size : ℕ = length (encode (nodes_in image)) in
-      rw (within, stated-apart image bytes size no_place (inr down), le-ltb bytes size held, le-ltb (max_region_size (fst_offset image) (fst_size image) (free_space_of image)) size grows)
+      rw (within, stated-apart image bytes size no_region (inr down), le-ltb bytes size held, le-ltb (max_region_size (fst_offset image) (fst_size image) (free_space_of image)) size grows)
 
   -- THEOREM: with a record that is the image's, and a count that can rise, a rewrite is accepted, leaves the tree as it is and its table within the maximum
   pub edited-down : (n : ℕ) → n + 1 < 2 ^ 32 →

@@ -9,10 +9,9 @@ use Rattle.tree.specs.Table.{Node, file, directory, none}
 use Rattle.tree.specs.Lookup.{is_directory, next_of}
 use Rattle.tree.specs.Insert.{later, splice, insert_at, placed, set_place}
 use Rattle.space.specs.declared.region.DiscRegion.{DiscRegion}
-use Rattle.space.specs.Used.{nonempty, used_regions}
+use Rattle.space.specs.Used.{nonempty, used_regions, no_region}
 use Rattle.executable.specs.Program.{program_behind}
 use Rattle.opened.specs.Opening.{nodes_in, region_of}
-use Rattle.edits.specs.Edits.{no_place}
 use Rattle.ledger.specs.Inner.Files.{pick, files_of, names_of}
 use Rattle.ledger.specs.Ledger.{bare, files_before, put_in}
 
@@ -93,7 +92,7 @@ unfolding set_place
 files-set_place o n k nodes e = files-set o n k nodes e
 
 -- file k's region stands at its number among the files
-pub files-at : (k : ℕ) (xs : List Node) → is_directory (get_or xs k none) ≡ false → get_or (files_of xs) (files_before k xs) no_place ≡ region_of (get_or xs k none)
+pub files-at : (k : ℕ) (xs : List Node) → is_directory (get_or xs k none) ≡ false → get_or (files_of xs) (files_before k xs) no_region ≡ region_of (get_or xs k none)
 unfolding pick files_before
 files-at k [] e = absurd (true≢false e)
 files-at zero (file nm offset size ∷ xs) e = refl
@@ -111,7 +110,7 @@ files-count (suc k) (directory nm next ∷ xs) e = files-count k xs e
 
 -- the entry of the f-th file
 pub entry_of : (f : ℕ) (xs : List Node) → f < length (files_of xs) →
-    (k : ℕ) × (files_before k xs ≡ f) × (get_or xs k none ≡ file (get_or (names_of xs) f []) (get_or (files_of xs) f no_place).offset (get_or (files_of xs) f no_place).size)
+    (k : ℕ) × (files_before k xs ≡ f) × (get_or xs k none ≡ file (get_or (names_of xs) f []) (get_or (files_of xs) f no_region).offset (get_or (files_of xs) f no_region).size)
 unfolding pick files_before
 entry_of f [] h = absurd (omega arith)
 entry_of zero (file nm offset size ∷ xs) h = (0, refl, refl)

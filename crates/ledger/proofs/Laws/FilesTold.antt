@@ -8,9 +8,10 @@ use Rattle.endian.specs.Bytes.{span}
 use Rattle.tree.specs.Table.{Node, file, directory, none}
 use Rattle.tree.specs.Lookup.{is_directory}
 use Rattle.space.specs.declared.region.DiscRegion.{DiscRegion}
+use Rattle.space.specs.Used.{no_region}
 use Rattle.opened.specs.Opening.{nodes_in}
 use Rattle.refusal.specs.Laws.Tests.{or-false}
-use Rattle.edits.specs.Edits.{Edit, insert_file, insert_directory, make_directories, move_file, resize_file, fill_file, rewrite, no_place}
+use Rattle.edits.specs.Edits.{Edit, insert_file, insert_directory, make_directories, move_file, resize_file, fill_file, rewrite}
 use Rattle.ledger.specs.Ledger.{History, Ledger, bare, files_before, history_of, first_ledger, Report, ledger_after}
 use Rattle.ledger.specs.Inner.Files.{files_of}
 use Rattle.ledger.proofs.Laws.Files.{files-at, files-count, entry_of}
@@ -104,7 +105,7 @@ first-exists image k nm offset size e =
     let b : get_or xs k none ≡ file nm 0 size = bare-at (nodes_in image) k nm offset size e in
     let d : is_directory (get_or xs k none) ≡ false = rw b in
     let c : files_before k xs < length (files_of xs) = files-count k xs d in
-    let a : (get_or (files_of xs) (files_before k xs) no_place).size ≡ size = ap (λ (r : DiscRegion). r.size) (files-at k xs d) ∙ rw b in
+    let a : (get_or (files_of xs) (files_before k xs) no_region).size ≡ size = ap (λ (r : DiscRegion). r.size) (files-at k xs d) ∙ rw b in
     ((g.0.0, g.1.0, rw (before-bare k (nodes_in image)) at c), rw (before-bare k (nodes_in image)) at a)
 
 -- THEOREM: its starting place and bytes, m, and whether it was named

@@ -5,7 +5,7 @@ use Rattle.endian.specs.Bytes.{span}
 use Rattle.endian.specs.Laws.Stored.{get_d-span}
 use Rattle.tree.specs.Table.{Node, file, directory}
 use Rattle.space.specs.declared.region.DiscRegion.{DiscRegion}
-use Rattle.edits.specs.Edits.{no_place}
+use Rattle.space.specs.Used.{no_region}
 use Rattle.ledger.specs.Ledger.{History, new_history, lowered, put_in, first_histories}
 use Rattle.edits.proofs.Laws.Puts.{span-length}
 use Rattle.ledger.specs.Inner.Files.{pick, files_of}
@@ -57,7 +57,7 @@ trues-put-in image (suc j) y g [] (h ∷ hs) n t = absurd t
 trues-put-in image (suc j) y g (x ∷ fs) [] n t = absurd t
 trues-put-in image (suc j) y g (x ∷ fs) (h ∷ hs) n t = (t.0, trues-put-in image j y g fs hs n t.1)
 
-pub true-new : (image : List ℕ) → True image no_place new_history
+pub true-new : (image : List ℕ) → True image no_region new_history
 true-new image = record { least = omega arith; known = omega arith; same = λ i l. absurd (omega arith); unnamed = λ z. (refl, refl, refl) }
 
 pub trues-at : (image : List ℕ) (fs : List DiscRegion) (hs : List History) (k : ℕ) → Trues image fs hs → k < length fs → True image (region fs k) (get_or hs k new_history)

@@ -5,8 +5,9 @@ use Rattle.std.proofs.Common.{sym, ap, ◌∙◌, arith, length-set}
 use Rattle.tree.specs.Table.{Node, file, directory}
 use Rattle.tree.specs.Lookup.{components}
 use Rattle.space.specs.declared.region.DiscRegion.{DiscRegion}
+use Rattle.space.specs.Used.{no_region}
 use Rattle.opened.specs.Opening.{nodes_in}
-use Rattle.edits.specs.Edits.{Edit, insert_file, insert_directory, make_directories, move_file, resize_file, fill_file, rewrite, new_number, no_place}
+use Rattle.edits.specs.Edits.{Edit, insert_file, insert_directory, make_directories, move_file, resize_file, fill_file, rewrite, new_number}
 use Rattle.ledger.specs.Ledger.{Ledger, files_before, new_history, first_histories, first_ledger, put_in, entered, Report, ledger_after}
 use Rattle.ledger.specs.Inner.Files.{pick, place_of, files_of, own_name, names_of}
 use Rattle.ledger.proofs.Laws.Files.{insert-directory, insert-file, names-set_place, names-bare}
@@ -94,7 +95,7 @@ new-file l p nm m =
     let b : j ≤ length (names_of l.nodes) = before-most (new_number l.nodes p) l.nodes in
     let h = put-in-at new_history j new_history l.histories (omega arith) in
     let n : Holds [] (names_of (entered (insert_file p nm) l).nodes) j nm = rw (insert-file own_name p nm 0 0 l.nodes) (put-in-at [] j nm (names_of l.nodes) b) in
-    let s : Holds no_place (files_of (entered (insert_file p nm) l).nodes) j no_place = rw (insert-file place_of p nm 0 0 l.nodes) (put-in-at no_place j no_place (files_of l.nodes) (omega (arith, as_many l.nodes))) in
+    let s : Holds no_region (files_of (entered (insert_file p nm) l).nodes) j no_region = rw (insert-file place_of p nm 0 0 l.nodes) (put-in-at no_region j no_region (files_of l.nodes) (omega (arith, as_many l.nodes))) in
     record { exists = (h.0, n.0, s.0); history = h.1; name = n.1; size = ap (λ (r : DiscRegion). r.size) s.1 }
 
 -- ---- the list

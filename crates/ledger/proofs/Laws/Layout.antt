@@ -7,7 +7,7 @@ use Rattle.refusal.specs.Laws.Tests.{and_left, and_right, and_both, or_cases, or
 use Rattle.header.specs.Verdicts.{fst_offset, fst_size, fst_max_size, disc_end}
 use Rattle.tree.specs.Table.{encode}
 use Rattle.space.specs.declared.region.DiscRegion.{DiscRegion}
-use Rattle.space.specs.Used.{inside, uses_byte, nonempty, total_size}
+use Rattle.space.specs.Used.{inside, uses_byte, nonempty, total_size, no_region}
 use Rattle.space.specs.Inner.Sort.{holds}
 use Rattle.space.specs.Laws.UsedLaws.{inside-in, inside-high, used-nonempty}
 use Rattle.space.specs.Laws.LayoutLaws.{inside-from, inside-to}
@@ -16,7 +16,6 @@ use Rattle.space.specs.Laws.LargestLaws.{Exchanged}
 use Rattle.executable.specs.Program.{program_of, program_behind}
 use Rattle.opened.specs.Opening.{table_of}
 use Rattle.edits.specs.Change.{Plan, refused, nothing, change, filled}
-use Rattle.edits.specs.Edits.{no_place}
 use Rattle.ledger.proofs.Laws.Files.{files_in, places_in}
 use Rattle.ledger.proofs.Laws.Apart.{Has, region, Apart, some-used, used-some}
 use Rattle.ledger.proofs.Laws.Alike.{Alike, start-same, size_same, end_same, table_same, tree-same}
@@ -37,21 +36,21 @@ pub record LaidOut (image image' : List ℕ) (size : ℕ) (old new : DiscRegion)
 -- the image afterwards has the layout of the plan: one that is refused has none, and one that writes no table leaves it byte for byte
 abbrev pub Lays : Plan → List ℕ → List ℕ → Type 0
 Lays (refused v) image image' = is_refused v ≡ true
-Lays nothing image image' = LaidOut image image' (fst_size image) no_place no_place × (table_of image' ≡ table_of image)
+Lays nothing image image' = LaidOut image image' (fst_size image) no_region no_region × (table_of image' ≡ table_of image)
 Lays (change k c) image image' = LaidOut image image' (length (encode c.nodes)) c.old c.place
 Lays (filled k clip p) image image' = Lays p image image'
 
 -- ---- no place is changed
 
-exchanged-none : (fs fs' : List DiscRegion) → nonempty fs' ≡ nonempty fs → Exchanged fs fs' no_place no_place
+exchanged-none : (fs fs' : List DiscRegion) → nonempty fs' ≡ nonempty fs → Exchanged fs fs' no_region no_region
 exchanged-none fs fs' e = record {
   total = let z : total_size fs' ≡ total_size fs = sym (total-nonempty fs') ∙ ap total_size e ∙ total-nonempty fs in omega arith;
   bytes = λ i. sym (used-nonempty fs' i) ∙ ap (λ (xs : List DiscRegion). uses_byte xs i) e ∙ used-nonempty fs i ∙ none i (uses_byte fs i);
 }
   where
-    none : (i : ℕ) (u : Bool) → u ≡ (inside no_place i || (u && not (inside no_place i)))
-    none i true = rw (inside-high no_place i (omega arith))
-    none i false = rw (inside-high no_place i (omega arith))
+    none : (i : ℕ) (u : Bool) → u ≡ (inside no_region i || (u && not (inside no_region i)))
+    none i true = rw (inside-high no_region i (omega arith))
+    none i false = rw (inside-high no_region i (omega arith))
 
 -- ---- one place is changed
 
@@ -75,17 +74,17 @@ module _ (t e : ℕ) (fs : List DiscRegion) (a : Apart t e fs) (r : ℕ) (y : Di
       go : (k : ℕ) → Has (region (set fs r y) k) i → (b : Bool) → eqb k r ≡ b → (inside y i || (uses_byte fs i && not (inside (region fs r) i))) ≡ true
       go k h true q =
           let z : k ≡ r = eqb-true k r q in
-          let g : Has y i = rw (get_or-set_same fs r y no_place inb) at (rw z at h) in
+          let g : Has y i = rw (get_or-set_same fs r y no_region inb) at (rw z at h) in
           or_left (inside y i) _ (inside-in y i g.0 g.1)
       go k h false q =
           let d : k ≡ r → ⊥ = eqb-false k r q in
-          let g : Has (region fs k) i = rw (get_or-set_other fs r k y no_place d) at h in
+          let g : Has (region fs k) i = rw (get_or-set_other fs r k y no_region d) at h in
           let o : inside (region fs r) i ≡ false = is_false (inside (region fs r) i) (λ v. d (a.apart k r i g (inside-from (region fs r) i v, inside-to (region fs r) i v))) in
           or_right (inside y i) _ (and_both (uses_byte fs i) (not (inside (region fs r) i)) (some-used fs k i g) (rw o))
 
   to-new : (i : ℕ) → (inside y i || (uses_byte fs i && not (inside (region fs r) i))) ≡ true → uses_byte (set fs r y) i ≡ true
   to-new i u =
-      ⊎_elim (λ v. some-used (set fs r y) r i (rw (get_or-set_same fs r y no_place inb) (inside-from y i v, inside-to y i v)))
+      ⊎_elim (λ v. some-used (set fs r y) r i (rw (get_or-set_same fs r y no_region inb) (inside-from y i v, inside-to y i v)))
       (λ v. let s = used-some fs i (and_left (uses_byte fs i) _ v) in go s.0 s.1 (and_right (uses_byte fs i) _ v) (eqb s.0 r) refl) (or_cases (inside y i) _ u)
     where
       go : (k : ℕ) → Has (region fs k) i → not (inside (region fs r) i) ≡ true → (b : Bool) → eqb k r ≡ b → uses_byte (set fs r y) i ≡ true
@@ -94,7 +93,7 @@ module _ (t e : ℕ) (fs : List DiscRegion) (a : Apart t e fs) (r : ℕ) (y : Di
           let g : Has (region fs r) i = rw z at h in
           let v : not (inside (region fs r) i) ≡ false = rw (inside-in (region fs r) i g.0 g.1) in
           absurd (never_both (not (inside (region fs r) i)) n v)
-      go k h n false q = some-used (set fs r y) k i (rw (get_or-set_other fs r k y no_place (eqb-false k r q)) h)
+      go k h n false q = some-used (set fs r y) k i (rw (get_or-set_other fs r k y no_region (eqb-false k r q)) h)
 
   pub exchanged-set : Exchanged fs (set fs r y) (region fs r) y
   exchanged-set = record { total = total-set fs r y inb; bytes = λ i. same_test (uses_byte (set fs r y) i) _ (to-old i) (to-new i) }
@@ -111,7 +110,7 @@ module _ (image image' : List ℕ) (end : disc_end image' ≡ disc_end image) (s
     clear_of i u = let s = used-some (places_in image) i u in clear s.0 i s.1
 
     -- LAW: the files' bytes are the same
-    pub laid_same : nonempty (files_in image') ≡ nonempty (files_in image) → LaidOut image image' size no_place no_place
+    pub laid_same : nonempty (files_in image') ≡ nonempty (files_in image) → LaidOut image image' size no_region no_region
     laid_same e = record {
       end = end;
       start = start;
@@ -154,6 +153,6 @@ module _ (image image' image'' : List ℕ) (o : Opened image') (a : Alike image'
   -- LAW: what does not touch header, table and program leaves the layout as it is
   pub laid_on : (p : Plan) → Lays p image image' → Lays p image image''
   laid_on (refused v) l = l
-  laid_on nothing l = (laid-out-on (fst_size image) no_place no_place l.0, table_same image' image'' a o ∙ l.1)
+  laid_on nothing l = (laid-out-on (fst_size image) no_region no_region l.0, table_same image' image'' a o ∙ l.1)
   laid_on (change k c) l = laid-out-on (length (encode c.nodes)) c.old c.place l
   laid_on (filled k clip p) l = laid_on p l

@@ -13,12 +13,13 @@ use Rattle.refusal.specs.Laws.Chains.{refuse-passed, first-passed}
 use Rattle.tree.specs.Table.{Node, file, directory, none}
 use Rattle.tree.specs.Lookup.{is_directory}
 use Rattle.space.specs.declared.region.DiscRegion.{DiscRegion}
+use Rattle.space.specs.Used.{no_region}
 use Rattle.refusal.specs.Laws.Tests.{lt-or-le, or-false}
 use Rattle.space.specs.MaxRegionSize.{max_region_size}
 use Rattle.space.specs.Allocate.{allocation_of}
 use Rattle.opened.specs.Opening.{nodes_in, free_space_of, region_of, disc_of}
 use Rattle.edits.specs.Change.{Change, written, table_verdict, Plan, nothing, change}
-use Rattle.edits.specs.Edits.{move_file, resize_file, no_place, file_verdict, relocated, relocate_verdict, plan_move, resized, plan_elsewhere, plan_resize}
+use Rattle.edits.specs.Edits.{move_file, resize_file, file_verdict, relocated, relocate_verdict, plan_move, resized, plan_elsewhere, plan_resize}
 use Rattle.ledger.specs.Ledger.{History, Ledger, files_before, new_history, marked, lowered, entered}
 use Rattle.ledger.proofs.Laws.Files.{files_in, files-at, files-count}
 use Rattle.ledger.proofs.Laws.Apart.{region}
@@ -120,7 +121,7 @@ module _ (w : ℕ) (image : List ℕ) (l : Ledger) (K : Kept w image l) (words b
           bytes = K.bytes;
           opens = K.opens;
           shape = sym (move-bare 0 k (nodes_in image) x.0 (place_in image k).offset n x') ∙ set_place-bare 0 n k (nodes_in image) ∙ rw K.shape;
-          trues = rw (number_is k) (rw (set-get_or (files_in image) r no_place) at (trues-set image image r (region (files_in image) r) (lowered n h) (files_in image) l.histories (λ j d i g. refl) t K.trues));
+          trues = rw (number_is k) (rw (set-get_or (files_in image) r no_region) at (trues-set image image r (region (files_in image) r) (lowered n h) (files_in image) l.histories (λ j d i g. refl) t K.trues));
         }
 
     -- in place

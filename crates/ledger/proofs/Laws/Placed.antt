@@ -12,6 +12,7 @@ use Rattle.tree.specs.Lookup.{is_directory}
 use Rattle.tree.specs.Insert.{set_place}
 use Rattle.tree.proofs.Laws.PlaceLaws.{set_place-sound}
 use Rattle.space.specs.declared.region.DiscRegion.{DiscRegion}
+use Rattle.space.specs.Used.{no_region}
 use Rattle.opened.specs.Opening.{nodes_in, opening, region_of}
 use Rattle.edits.specs.Change.{Change, written}
 use Rattle.edits.specs.Edits.{relocated, resized}
@@ -98,7 +99,7 @@ module _ (w : ℕ) (image : List ℕ) (l : Ledger) (K : Kept w image l) (words :
 
   -- ---- elsewhere: the bytes are copied, the old place is zeroed
 
-  module _ (nowhere : (i : ℕ) → Has new i → Has (place_in image k) i → ⊥) (ho : new.offset < 2 ^ 32) (hn : new.size < 2 ^ 32)
+  module _ (no_region : (i : ℕ) → Has new i → Has (place_in image k) i → ⊥) (ho : new.offset < 2 ^ 32) (hn : new.size < 2 ^ 32)
       (r : TableRoom (relocated (nodes_in image) k (place_in image k) new) image words) where
     c : Change
     c = relocated (nodes_in image) k (place_in image k) new
@@ -138,7 +139,7 @@ module _ (w : ℕ) (image : List ℕ) (l : Ledger) (K : Kept w image l) (words :
       others = λ j d i h.
           rest-written c image relocated-safe i (o.places.lie j i h).0 (r.clear j i h) (λ z. outside new (min (place_in image k).size new.size) i (omega arith) (λ g. (free i g).2 j d h))
           (λ z. outside (place_in image k) (place_in image k).size i (omega arith) (not_there w image l K k is_file j i d h));
-      moved = λ i h. copy_written c image relocated-safe i h (λ z. outside (place_in image k) (place_in image k).size (new.offset + i) (omega arith) (nowhere (new.offset + i) (omega arith, omega arith)));
+      moved = λ i h. copy_written c image relocated-safe i h (λ z. outside (place_in image k) (place_in image k).size (new.offset + i) (omega arith) (no_region (new.offset + i) (omega arith, omega arith)));
     }
 
   -- ---- in place: nothing is copied, the lost end is zeroed

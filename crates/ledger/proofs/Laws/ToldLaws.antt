@@ -6,7 +6,8 @@ use Rattle.tree.specs.Table.{none}
 use Rattle.tree.specs.Lookup.{components, is_directory}
 use Rattle.tree.specs.Insert.{set_place}
 use Rattle.space.specs.declared.region.DiscRegion.{DiscRegion}
-use Rattle.edits.specs.Edits.{Edit, insert_file, insert_directory, make_directories, move_file, resize_file, fill_file, rewrite, new_number, no_place}
+use Rattle.space.specs.Used.{no_region}
+use Rattle.edits.specs.Edits.{Edit, insert_file, insert_directory, make_directories, move_file, resize_file, fill_file, rewrite, new_number}
 use Rattle.ledger.specs.Ledger.{History, Ledger, files_before, new_history, marked, lowered, refilled, entered, Report, ledger_after}
 use Rattle.ledger.specs.Inner.Files.{place_of, files_of, own_name, names_of}
 use Rattle.ledger.proofs.Laws.Files.{insert-directory, insert-file, names-set_place, files-set_place}
@@ -116,7 +117,7 @@ name-entered rewrite l f nm h = h
 
 -- file f is one of them, and has this size
 abbrev HasSize : List DiscRegion → ℕ → ℕ → Type 0
-HasSize rs f n = (f < length rs) × ((get_or rs f no_place).size ≡ n)
+HasSize rs f n = (f < length rs) × ((get_or rs f no_region).size ≡ n)
 
 -- the size of file k set
 set-size : (k n : ℕ) (l : Ledger) (f : ℕ) (gs : List Given) → last_of (size_at l f) gs ≡ n → is_directory (get_or l.nodes k none) ≡ false → f < length (files_of l.nodes) →
@@ -133,13 +134,13 @@ set-size k n l f gs g o h = rw (files-set_place 0 n k l.nodes o) (go (eqb f r) r
     r = files_before k l.nodes
 
     go : (t : Bool) → eqb f r ≡ t → HasSize (set rs r new) f (last_of (size_at l f) (cond t gs []))
-    go true e = let e' : f ≡ r = eqb-true f r e in (rw (length-set rs r new) h, rw (g, ← e', get_or-set_same rs f new no_place h))
-    go false e = unfold last_of in (rw (length-set rs r new) h, rw (get_or-set_other rs r f new no_place (eqb-false f r e)))
+    go true e = let e' : f ≡ r = eqb-true f r e in (rw (length-set rs r new) h, rw (g, ← e', get_or-set_same rs f new no_region h))
+    go false e = unfold last_of in (rw (length-set rs r new) h, rw (get_or-set_other rs r f new no_region (eqb-false f r e)))
 
 size-entered : (ed : Edit) (l : Ledger) (f : ℕ) → of_file ed l → f < length (files_of l.nodes) → HasSize (files_of (entered ed l).nodes) (shifted_by ed l f) (last_of (size_at l f) (given ed l f))
 unfolding last_of
 size-entered (insert_file p nm) l f o h =
-    let t = put-in-holds no_place (files_before (new_number l.nodes p) l.nodes) no_place (files_of l.nodes) f _ (h, refl) in
+    let t = put-in-holds no_region (files_before (new_number l.nodes p) l.nodes) no_region (files_of l.nodes) f _ (h, refl) in
     rw (insert-file place_of p nm 0 0 l.nodes) (t.0, ap (λ (r : DiscRegion). r.size) t.1)
 size-entered (insert_directory p nm) l f o h = rw (insert-directory place_of p nm (suc (new_number l.nodes p)) l.nodes) (h, refl)
 size-entered (make_directories start path) l f o h = rw (made-same place_of l.nodes start (components path)) (h, refl)
@@ -161,9 +162,9 @@ pub record Goes (l l' : Ledger) (f f' : ℕ) (named : Bool) (gs : List Given) : 
   pub name : name_at l' f' ≡ name_at l f
   pub size : size_at l' f' ≡ last_of (size_at l f) gs
 
-goes-nowhere : (l : Ledger) (f : ℕ) → Exists l f → Goes l l f f false []
+goes-no_region : (l : Ledger) (f : ℕ) → Exists l f → Goes l l f f false []
 unfolding last_of
-goes-nowhere l f x = record { exists = x; history = changed-none (history_at l f); name = refl; size = refl }
+goes-no_region l f x = record { exists = x; history = changed-none (history_at l f); name = refl; size = refl }
 
 goes-next : (r : Report) (l : Ledger) (f : ℕ) → (r.accepted ≡ true → of_file r.edit l) → Exists l f →
     Goes l (ledger_next r l) f (number_next r l f) (r.accepted && names r.edit l f) (cond r.accepted (given r.edit l f) [])
@@ -175,7 +176,7 @@ goes-next r l f o x = go r.accepted refl
         let n = name-entered r.edit l f _ (x.1, refl) in
         let s = size-entered r.edit l f (o e) x.2 in
         record { exists = (h.0, n.0, s.0); history = h.1; name = n.1; size = s.1 }
-    go false e = goes-nowhere l f x
+    go false e = goes-no_region l f x
 
 goes_then : (l l' l'' : Ledger) (f f' f'' : ℕ) (a b : Bool) (xs ys : List Given) → Goes l l' f f' a xs → Goes l' l'' f' f'' b ys → Goes l l'' f f'' (a || b) (xs ++ ys)
 goes_then l l' l'' f f' f'' a b xs ys g h = record {
@@ -188,7 +189,7 @@ goes_then l l' l'' f f' f'' a b xs ys g h = record {
 -- LAW: any list of reports
 pub goes : (reports : List Report) (l : Ledger) (f : ℕ) → OfFiles reports l → Exists l f → Goes l (ledger_after reports l) f (number_after reports l f) (named_in reports l f) (given_in reports l f)
 unfolding ledger_after number_after named_in given_in
-goes [] l f o x = goes-nowhere l f x
+goes [] l f o x = goes-no_region l f x
 goes (r ∷ reports) l f o x =
     let g = goes-next r l f o.0 x in
     goes_then l (ledger_next r l) _ f (number_next r l f) _ _ _ _ _ g (goes reports (ledger_next r l) (number_next r l f) o.1 g.exists)

@@ -1,9 +1,10 @@
 -- What a list of reports tells of one file: whether an accepted edit named it, and the sizes and clips that accepted edits gave it. The file is
 -- followed by its number among the files, as in Spared. Assumes nothing: these are definitions.
 use Rattle.std.specs.Prelude.{ℕ, min, ◌≡◌, Bool, true, false, ◌&&◌, ◌||◌, List, [], ◌∷◌, ◌++◌, length, if◌then◌else◌, ◌==◌, slice_index_or}
+use Rattle.space.specs.Used.{no_region}
 use Rattle.tree.specs.Table.{none}
 use Rattle.tree.specs.Lookup.{is_directory}
-use Rattle.edits.specs.Edits.{Edit, insert_file, insert_directory, make_directories, move_file, resize_file, fill_file, rewrite, no_place}
+use Rattle.edits.specs.Edits.{Edit, insert_file, insert_directory, make_directories, move_file, resize_file, fill_file, rewrite}
 use Rattle.ledger.specs.Ledger.{History, Ledger, files_before, new_history, Report}
 use Rattle.ledger.specs.Inner.Files.{files_of, names_of}
 use Rattle.ledger.specs.Spared.{names, ledger_next, number_next}
@@ -59,7 +60,7 @@ abbrev pub name_at : Ledger → ℕ → List ℕ
 name_at l f = slice_index_or (names_of l.nodes) f []
 
 abbrev pub size_at : Ledger → ℕ → ℕ
-size_at l f = (slice_index_or (files_of l.nodes) f no_place).size
+size_at l f = (slice_index_or (files_of l.nodes) f no_region).size
 
 -- the accepted moves, resizes and fills of the list have the numbers of files, as 16 makes sure
 abbrev pub of_file : Edit → Ledger → Type 0

@@ -11,7 +11,7 @@ use Rattle.refusal.specs.Laws.Tests.{and_left, and_right}
 use Rattle.header.specs.Verdicts.{dol_offset, fst_size, fst_max_size}
 use Rattle.tree.specs.Table.{file, directory, none, count, name_at, node_at, nodes_from, nodes_of, parent_below, parent_of, entries_bytes, texts_of, encode}
 use Rattle.tree.specs.Insert.{shifted, bump, splice, insert_at, set_place}
-use Rattle.space.specs.Used.{inside, nonempty, total_size}
+use Rattle.space.specs.Used.{inside, nonempty, total_size, no_region}
 use Rattle.space.specs.Free.{largest_size}
 use Rattle.space.specs.Listing.{rows_of}
 use Rattle.window.specs.Window.{new_window, count_of}
@@ -21,7 +21,7 @@ use Rattle.opened.specs.Opening.{table_of, nodes_in, used_in, free_space_of, use
 use Rattle.disc.specs.Calls.{totals_answer, program_answer, free_regions_answer, free_regions_list, totals_of, record_answer}
 use Rattle.disc.specs.Files.{open_file_answer}
 use Rattle.edits.specs.Change.{nothing}
-use Rattle.edits.specs.Edits.{Edit, no_place, rewrite, resize_file, plan_resize, plan_of, image_after}
+use Rattle.edits.specs.Edits.{Edit, rewrite, resize_file, plan_resize, plan_of, image_after}
 use Rattle.ledger.specs.Ledger.{History, Ledger, bare, files_before, history_of, put_in, first_ledger}
 use Rattle.ledger.specs.Runs.{Call, image_after_all, accepted_in, AllWithin}
 use Rattle.ledger.specs.Spared.{number_after, Spared}
@@ -90,7 +90,7 @@ pub record LastHolds (w : ℕ) : Type 0 where
   pub opens : opening last w ≡ Ok tt
   pub tree : map bare (nodes_in last) ≡ directory [] 3 ∷ file (0x61 ∷ []) 0 0x100 ∷ file (0x62 ∷ []) 0 5 ∷ []
   -- byte 0x500 is `a`'s, the third used region's, and no other's
-  pub apart : (j : ℕ) → inside (get_or (used_in last) j no_place) 0x500 ≡ true → j ≡ 2
+  pub apart : (j : ℕ) → inside (get_or (used_in last) j no_region) 0x500 ≡ true → j ≡ 2
   pub sum : total_size (free_space_of last) ≡ 6543
   pub used : totals_answer last w ≡ Ok (record { disc_end = 8192; used = 1649 })
   pub free : free_regions_answer last w 8 ≡ Ok 4

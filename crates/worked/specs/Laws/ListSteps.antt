@@ -11,13 +11,14 @@ use Rattle.tree.specs.Table.{Node, plain, safe, shut, parent_below, parent_of, e
 use Rattle.tree.specs.Lookup.{first_child, child_of}
 use Rattle.tree.specs.Insert.{bump, splice, insert_at, set_place}
 use Rattle.space.specs.declared.region.DiscRegion.{DiscRegion}
+use Rattle.space.specs.Used.{no_region}
 use Rattle.space.specs.Free.{largest_size}
 use Rattle.space.specs.MaxRegionSize.{beside_free, max_size_from}
 use Rattle.space.specs.declared.totals.Totals.{Totals}
 use Rattle.space.specs.Totals.{totals_verdict, totals_moved}
 use Rattle.opened.specs.Opening.{disc_of}
 use Rattle.edits.specs.Change.{Change, Plan, change, filled, with_table, written, table_verdict, place_verdict}
-use Rattle.edits.specs.Edits.{Edit, insert_file, move_file, resize_file, fill_file, rewrite, no_place, table_only, relocated, resized, insert_verdict, plan_move, plan_resize, plan_fill, plan_of, plan_verdict, plan_image, counted_verdict, verdict_of, image_after, totals_after}
+use Rattle.edits.specs.Edits.{Edit, insert_file, move_file, resize_file, fill_file, rewrite, table_only, relocated, resized, insert_verdict, plan_move, plan_resize, plan_fill, plan_of, plan_verdict, plan_image, counted_verdict, verdict_of, image_after, totals_after}
 use Rattle.edits.proofs.Laws.Accepted.{refused-back}
 use Rattle.worked.specs.Image.{master, master_words}
 use Rattle.worked.specs.Laws.Marked.{at}
@@ -88,7 +89,7 @@ onto-itself = refused OverlappingMove (move_file 1 0x580) (totals 1644 6140 1) (
 -- `b`, which is empty, to where there is room
 
 abbrev move_b : Change
-move_b = relocated (tree_b 0 0) 2 no_place (at 0x900 0)
+move_b = relocated (tree_b 0 0) 2 no_region (at 0x900 0)
 
 pub move-plan : plan_of (move_file 2 0x900) (disc_of (with_b 0 0 [])) ≡ change 2 move_b
 unfolding plan_move max_size_from beside_free

@@ -8,7 +8,7 @@ use Rattle.refusal.specs.declared.Refusal.TheVariants.{OverlappingMove, NotEnoug
 use Rattle.refusal.specs.Refusal.{number_of}
 use Rattle.tree.specs.Table.{file, directory, count, name_at, node_at, nodes_from, nodes_of, shut, parent_below, parent_of, entries_bytes, texts_of, encode, shallow_from, shallow, limits}
 use Rattle.tree.specs.Insert.{set_place}
-use Rattle.space.specs.Used.{uses_byte, nonempty, total_size}
+use Rattle.space.specs.Used.{uses_byte, nonempty, total_size, no_region}
 use Rattle.space.specs.Free.{runs, free_regions, largest_size}
 use Rattle.space.specs.MaxRegionSize.{beside_free, max_size_from}
 use Rattle.space.specs.declared.totals.Totals.{Totals}
@@ -123,9 +123,9 @@ pub record Records : Type 0 where
   pub before-25 : (answer (move_file 1 0x400) counted-out ≡ Err NotEnoughSpace) × (answer (move_file 1 0x580) counted-out ≡ Err OverlappingMove) × (after (move_file 1 0x400) counted-out ≡ counted-out)
   pub numbers : (number_of TotalsOutOfRange ≡ 25) × (number_of NotEnoughSpace ≡ 21) × (number_of OverlappingMove ≡ 20)
 
-no_place : answer (move_file 1 0x400) counted-out ≡ Err NotEnoughSpace
+no_region : answer (move_file 1 0x400) counted-out ≡ Err NotEnoughSpace
 unfolding verdict_of counted_verdict plan_move max_size_from beside_free
-no_place = rw (opens, nodes, free)
+no_region = rw (opens, nodes, free)
 
 onto-itself : answer (move_file 1 0x580) counted-out ≡ Err OverlappingMove
 unfolding verdict_of counted_verdict plan_move
@@ -146,6 +146,6 @@ records = record {
   full-same = (counted counted-out).same_size;
   below = ((counted (totals 1 6656 0)).less, (counted (totals 0 6656 0)).less);
   above = ((counted (totals (most - 1) 6656 0)).more, (counted (totals most 6656 0)).more);
-  before-25 = (no_place, onto-itself, rw no_place);
+  before-25 = (no_region, onto-itself, rw no_region);
   numbers = (refl, refl, refl);
 }

@@ -2,9 +2,10 @@
 use Rattle.std.proofs.Common.{◌≡◌, ◌<◌, unwrap_or}
 use Rattle.std.specs.Option.{ForSome}
 use Rattle.space.specs.declared.region.DiscRegion.{DiscRegion}
+use Rattle.space.specs.Used.{no_region}
 use Rattle.space.specs.Laws.FreeLaws.{AllEndBy}
 use Rattle.space.specs.Inner.UsedSpace.{free_in}
-use Rattle.space.specs.Allocate.{no_region, largest}
+use Rattle.space.specs.Allocate.{largest}
 use Rattle.space.proofs.used.UsedRegions.find_largest.Given as goal
 
 abbrev pub invariant-loop-region : goal.invariant-loop-region
