@@ -14,7 +14,7 @@ use Rattle.tree.specs.declared.Found.TheVariants as found
 use Rattle.space.specs.declared.region.DiscRegion.{DiscRegion}
 use Rattle.space.specs.Listing.{listing_of, list_after}
 use Rattle.space.specs.MaxRegionSize.{max_region_size}
-use Rattle.table.specs.Rows.{list_verdict, listed}
+use Rattle.table.specs.Rows.{list_verdict, list_with_rows}
 use Rattle.window.specs.declared.Window.{Window}
 use Rattle.window.specs.Window.{new_window}
 use Rattle.opened.specs.Opening.{opening, table_of, nodes_in, free_space_of, free_of}
@@ -49,7 +49,7 @@ module _ (image : List ℕ) (words : ℕ) (r : Result Opened Refusal) (h : Opens
 
   -- a list of all entries
   module _ (table : List ℕ) (bytes : table ≡ d.table) where
-    pub rows_asked : (list list' : List ℕ) (base : ℕ) → base ≡ d.disc.start → list' ≡ listed base table list → list' ≡ behind (opening image words) (λ (c : Refusal). list) (listed (fst_offset image) (table_of image) list)
+    pub rows_asked : (list list' : List ℕ) (base : ℕ) → base ≡ d.disc.start → list' ≡ list_with_rows base table list → list' ≡ behind (opening image words) (λ (c : Refusal). list) (list_with_rows (fst_offset image) (table_of image) list)
     rows_asked list list' base from e = asked (λ (c : Refusal). list) _ image words r h d opened list' (λ m. e ∙ rw (from, bytes, start_meant image d m, m.table_is))
 
     module _ (room : ℕ) (v u : Verdict) (judged : v ≡ list_verdict table room) (is : v ≡ u) where

@@ -17,7 +17,7 @@ use Rattle.tree.specs.Table.{Node}
 use Rattle.tree.specs.declared.FileEntry.{FileEntry}
 use Rattle.tree.specs.declared.Found.{Found}
 use Rattle.tree.specs.declared.Found.TheVariants as found
-use Rattle.table.specs.Rows.{list_verdict, listed}
+use Rattle.table.specs.Rows.{list_verdict, list_with_rows}
 use Rattle.disc.specs.declared.answers.DolFile.{DolFile}
 use Rattle.opened.specs.Opening.{opening, table_of, nodes_in}
 use Rattle.opened.specs.Answers.{behind, summary_of, max_region_size_answer}
@@ -41,7 +41,7 @@ entries_answer image words room =
     (Ok (summary_of image)))
 
 unfoldable pub entries_list : List ℕ → ℕ → List ℕ → List ℕ
-entries_list image words list = behind (opening image words) (λ c. list) (listed (fst_offset image) (table_of image) list)
+entries_list image words list = behind (opening image words) (λ c. list) (list_with_rows (fst_offset image) (table_of image) list)
 
 -- the place of a file, by its answer as an entry
 abbrev pub file_in : Found → Result FileEntry Refusal

@@ -13,6 +13,7 @@ use space::Totals;
 /// Each edit in turn, on the image as the edits before it left it; a refused edit changes nothing, and the
 /// next one goes on. What an edit gives stands at its place in `answers`. Room for fewer answers than there
 /// are edits is refused before anything is done.
+// Kept: `image`, `words`, `bytes`, `totals` one by one, as in `pipeline` (N).
 pub fn apply_all(
     image: &mut [u8],
     words: &mut [u32],
@@ -36,6 +37,7 @@ pub fn apply_all(
     if answers.len() < edits.len() {
         return Err(Refusal::LimitOrMemory);
     }
+    // Kept: answers by their index (N): of what is written through `iter_mut` beside `zip` nothing is known afterwards.
     for (i, edit) in edits.iter().enumerate() {
         answers[i] = pipeline::run(image, words.memory, bytes.memory, totals, *edit);
     }

@@ -114,5 +114,5 @@ put_header h image = put_fields fields (field_bytes h) image
 abbrev pub write_verdict : List ℕ → Verdict
 write_verdict image = refuse (nat_lt (length image) 0x440) HeaderPastImage (Ok tt)
 
-abbrev pub header_written : DiscHeader → List ℕ → List ℕ
-header_written h image = if nat_lt (length image) 0x440 then image else put_header h image
+abbrev pub image_with_header : DiscHeader → List ℕ → List ℕ
+image_with_header h image = if nat_lt (length image) 0x440 then image else put_header h image

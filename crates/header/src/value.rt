@@ -1,7 +1,7 @@
 // The disc header as a value: read, made and written.
 ghost use Rattle.std.specs.Prelude.{◌≡◌, ◌+◌, ◌≤◌, ◌<◌, length};
 ghost use Rattle.endian.specs.Bytes.{put, span};
-ghost use Rattle.header.specs.Header.{header_of, blank_header, header_read, write_verdict, header_written};
+ghost use Rattle.header.specs.Header.{header_of, blank_header, header_read, write_verdict, image_with_header};
 ghost use Rattle.header.specs.Inner.Writing.{put_some};
 
 use crate::fields;
@@ -177,7 +177,7 @@ impl DiscHeader {
     /// left as it was.
     pub fn write_to(self, image: &mut [u8]) -> Verdict
         ensures value { result ≡ write_verdict image.old }
-        ensures image_after { image.new ≡ header_written self image.old }
+        ensures image_after { image.new ≡ image_with_header self image.old }
     {
         if image.len() < 0x440 {
             return Err(Refusal::HeaderPastImage);

@@ -13,7 +13,7 @@ use lib.ListN.{length, get_or, drop, take, length-drop, get_or-eq_default}
 use lib.Seq.{get_or-drop, take-length}
 use lib.Dec.{eqb}
 use Rattle.endian.specs.Bytes.{span, same_bytes}
-use Rattle.refusal.specs.Laws.Tests.{lt-or-le, or-false}
+use Rattle.refusal.specs.Laws.Tests.{lt-or-le, or-false, and-false}
 use Rattle.refusal.specs.declared.Refusal.TheVariants.{NotFound}
 use Rattle.tree.specs.Table.{Node, name_of, none, count, nodes_of, up_to0, name_place}
 use Rattle.tree.specs.Lookup.{first_child, child_of}
@@ -22,10 +22,6 @@ use Rattle.table.specs.Inner.Texts.{text_at}
 use Rattle.table.specs.Inner.Zeros.{has_zero}
 use Rattle.table.proofs.Nodes.{root-name}
 use Rattle.table.proofs.Ended.{name-there}
-
-and-false : (b : Bool) → (b && false) ≡ false
-and-false true = refl
-and-false false = refl
 
 -- ---- the bytes of a list up to the first 0, compared with a name
 

@@ -16,7 +16,7 @@ use Rattle.refusal.specs.Laws.Tests.{lt-or-le}
 use Rattle.tree.specs.Table.{Node, file, directory, name_of, none, count, nodes_of, encloses, parent_below, parent_of}
 use Rattle.tree.specs.Lookup.{is_directory, next_of}
 use Rattle.tree.proofs.Laws.Nesting.{parent-here, parent-lower, parent-before}
-use Rattle.table.specs.Rows.{row_with, image_place, row_of, rows_below, listed}
+use Rattle.table.specs.Rows.{row_with, image_place, row_of, rows_below, list_with_rows}
 use Rattle.table.specs.Inner.ParentsIn.{HasParents}
 use Rattle.table.specs.Inner.Fields.{offset_of, last_of}
 use Rattle.table.proofs.Nodes.{parent-whole}
@@ -109,8 +109,8 @@ module _ (base : ℕ) (tab list₀ list : List ℕ) (k : ℕ) (room : 6 * count 
         is = e ∙ rw (l.is, add-one k) (put-behind list₀ (rows_below base tab k) (row_of base tab k) (6 * k) (length-rows base tab k) (omega (arith, length-row base tab k)));
       }
 
-  pub listing-end : count tab ≤ k → list ≡ listed base tab list₀
-  unfolding listed
+  pub listing-end : count tab ≤ k → list ≡ list_with_rows base tab list₀
+  unfolding list_with_rows
   listing-end h =
       let e : k ≡ count tab = omega (arith, l.at_most) in
       rw (le-ltb (length list₀) (6 * count tab) room) (l.is ∙ rw e)

@@ -30,5 +30,5 @@ rows_below base tab (suc k) = rows_below base tab k ++ row_of base tab k
 unfoldable pub list_verdict : List ℕ → ℕ → Verdict
 list_verdict tab room = refuse (nat_lt room (6 * count tab)) LimitOrMemory (Ok tt)
 
-unfoldable pub listed : ℕ → List ℕ → List ℕ → List ℕ
-listed base tab list = if nat_lt (length list) (6 * count tab) then list else put list 0 (rows_below base tab (count tab))
+unfoldable pub list_with_rows : ℕ → List ℕ → List ℕ → List ℕ
+list_with_rows base tab list = if nat_lt (length list) (6 * count tab) then list else put list 0 (rows_below base tab (count tab))

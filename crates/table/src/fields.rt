@@ -1,5 +1,5 @@
-// The fields of an entry's record, 12 bytes from 12 * k on. Their places stand here, and nowhere else but where
-// a whole record is written.
+// The fields of an entry's record, 12 bytes from 12 * k on. Their places stand here, and nowhere else but
+// where a whole record is written.
 ghost use Rattle.std.specs.Prelude.{◌≡◌, ◌+◌, ◌*◌, ◌≤◌, ◌<◌, ◌^◌, length};
 ghost use Rattle.endian.specs.Bytes.{be32_bytes, put};
 ghost use Rattle.tree.specs.Table as table_of;

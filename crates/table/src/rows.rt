@@ -5,7 +5,7 @@ ghost use Rattle.std.specs.List.{position};
 ghost use Rattle.endian.specs.Bytes.{put};
 ghost use Rattle.tree.specs.Table as table_of;
 ghost use Rattle.tree.specs.Table.{none, nodes_of, name_of, parent_of};
-ghost use Rattle.table.specs.Rows.{image_place, row_of, list_verdict, listed};
+ghost use Rattle.table.specs.Rows.{image_place, row_of, list_verdict, list_with_rows};
 ghost use Rattle.table.specs.Inner.Texts.{text_at};
 ghost use Rattle.table.specs.Inner.ParentsIn.{HasParents};
 ghost use Rattle.table.specs.Inner.Ends.{EndsIn};
@@ -244,7 +244,7 @@ impl Rows<'_> {
 pub fn list_entries(table: &Table<'_>, base: u32, list: &mut [u32]) -> Verdict
     requires { base + length table.now < 2 ^ 32 }
     ensures value { result ≡ list_verdict table.now (length list.old) }
-    ensures list_after { list.new ≡ listed base table.now list.old }
+    ensures list_after { list.new ≡ list_with_rows base table.now list.old }
 {
     let count = table.len();
     if list.len() < 6 * count {

@@ -15,7 +15,7 @@ use Rattle.endian.specs.Laws.Stored.{be24-same, be32-same}
 use Rattle.refusal.specs.Laws.Tests.{lt-or-eq-or-gt}
 use Rattle.tree.specs.Table.{Node, name_of, kind, name_offset, offset_or_parent, size_or_next, node_with, node_bytes}
 use Rattle.tree.proofs.Laws.WrittenEntries.{length-node_bytes}
-use Rattle.tree.specs.Insert.{bump, earlier, later, shifted}
+use Rattle.tree.specs.Insert.{bump, node_before, node_after, shifted}
 use Rattle.tree.proofs.Laws.Records.{Twelve}
 use Rattle.tree.specs.Inner.Patch.{stored, record_before, record_after, patched_record}
 use Rattle.table_writing.specs.Inner.Flat.{record_bytes}
@@ -37,7 +37,7 @@ file-not-one Directory n e h o = absurd (cc h)
 
 -- ---- one record
 
-before-with : (t o a b p k : ℕ) → t ≤ 1 → record_bytes t o a (next_before t p k b) ≡ node_bytes a o (earlier p k (node_with t [] a b))
+before-with : (t o a b p k : ℕ) → t ≤ 1 → record_bytes t o a (next_before t p k b) ≡ node_bytes a o (node_before p k (node_with t [] a b))
 before-with zero o a b p k h = refl
 before-with (suc zero) o a b p k h = refl
 before-with (suc (suc t)) o a b p k h = absurd (omega arith)
@@ -66,11 +66,11 @@ new-name false nm q = refl
 
 pub before-twelve : (s : List ℕ) (p k : ℕ) → length (record_before s p k) ≡ 12
 unfolding record_before
-before-twelve s p k = length-node_bytes (offset_or_parent s k) (name_offset s k) (earlier p k (stored s k))
+before-twelve s p k = length-node_bytes (offset_or_parent s k) (name_offset s k) (node_before p k (stored s k))
 
 pub after-twelve : (s : List ℕ) (q grow k : ℕ) → length (record_after s q grow k) ≡ 12
 unfolding record_after
-after-twelve s q grow k = length-node_bytes (shifted q (offset_or_parent s k)) (name_offset s k + grow) (later (stored s k))
+after-twelve s q grow k = length-node_bytes (shifted q (offset_or_parent s k)) (name_offset s k + grow) (node_after (stored s k))
 
 -- ---- the next of an entry before the new one
 

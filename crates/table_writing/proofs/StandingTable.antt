@@ -46,9 +46,6 @@ module _ (s : List ℕ) (size words : ℕ) (st : Stands s size words) where
   pub inside : Within M words
   inside = within-limits M words st.within
 
-  pub few-entries : length M ≤ 16384
-  few-entries = inside.few
-
   pub entry-held : (k : ℕ) → k < length M → 12 * k + 12 ≤ length s
   entry-held k h = omega (arith, size_is, length-encode M, st.held)
 

@@ -17,20 +17,20 @@ unfoldable pub bump : ℕ → ℕ → ℕ
 bump p n = if nat_lt p n then suc n else n
 
 -- entry k, which stays before the new one: directory p and those around it end one later
-abbrev pub earlier : ℕ → ℕ → Node → Node
-earlier p k (file nm offset size) = file nm offset size
-earlier p k (directory nm next) = directory nm (if nat_le k p then bump p next else next)
+abbrev pub node_before : ℕ → ℕ → Node → Node
+node_before p k (file nm offset size) = file nm offset size
+node_before p k (directory nm next) = directory nm (if nat_le k p then bump p next else next)
 
 -- an entry that comes after the new one
-abbrev pub later : Node → Node
-later (file nm offset size) = file nm offset size
-later (directory nm next) = directory nm (suc next)
+abbrev pub node_after : Node → Node
+node_after (file nm offset size) = file nm offset size
+node_after (directory nm next) = directory nm (suc next)
 
 -- entries k and on, with the entry `new` put in after j of them
 unfoldable pub splice : ℕ → Node → ℕ → ℕ → List Node → List Node
-splice p new k zero xs = new ∷ map later xs
+splice p new k zero xs = new ∷ map node_after xs
 splice p new k (suc j) [] = new ∷ []
-splice p new k (suc j) (x ∷ xs) = earlier p k x ∷ splice p new (suc k) j xs
+splice p new k (suc j) (x ∷ xs) = node_before p k x ∷ splice p new (suc k) j xs
 
 -- `new` as the last child of directory p: its number is p's next
 unfoldable pub insert_at : ℕ → Node → List Node → List Node

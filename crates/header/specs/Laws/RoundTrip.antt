@@ -12,7 +12,7 @@ use Rattle.header.specs.declared.value.DiscHeader.{DiscHeader}
 use Rattle.header.specs.Fields.{fields, game_code_field, maker_code_field, disc_id_field, version_field, audio_streaming_field, stream_buffer_size_field, unused00a_field, wii_magic_field, gcn_magic_field, game_name_field, debug_monitor_offset_field, debug_monitor_addr_field, unused408_field, dol_offset_field, fst_offset_field, fst_size_field, fst_max_size_field, user_position_field, user_size_field, disc_size_field, unused43c_field}
 use Rattle.header.specs.Inner.Judged.{nth}
 use Rattle.header.specs.Verdicts.{gcn_magic, wii_magic, word_of, header_verdict}
-use Rattle.header.specs.Header.{bytes_of, byte_of, header_of, header_read, field_bytes, put_fields, put_header, header_written}
+use Rattle.header.specs.Header.{bytes_of, byte_of, header_of, header_read, field_bytes, put_fields, put_header, image_with_header}
 use Rattle.header.specs.Laws.FieldTests.{GoodHeader, header-passed, header-passes}
 use Rattle.header.specs.Laws.Tiling.{fields-tile, tile-start, tile-rest, tile-le, tile}
 use Rattle.endian.specs.Laws.Stays.{put-span, byte-span, be32-span}
@@ -110,10 +110,10 @@ module _ (image : List ℕ) (whole : 0x440 ≤ length image) (bytes : AllBytes i
   write_read = rw spans (put-spans 0 0x440 fields image fields-tile whole)
 
 -- a header that was read as good is written back as it was: the game name, the word at 0x18 and the unused runs too
-pub write-after-read : (image : List ℕ) (h : DiscHeader) → header_read image ≡ Ok h → AllBytes image → header_written h image ≡ image
+pub write-after-read : (image : List ℕ) (h : DiscHeader) → header_read image ≡ Ok h → AllBytes image → image_with_header h image ≡ image
 write-after-read image h e bytes = go (header_verdict image) refl e
   where
-    go : (v : Verdict) → header_verdict image ≡ v → result_and v (Ok (header_of image)) ≡ Ok h → header_written h image ≡ image
+    go : (v : Verdict) → header_verdict image ≡ v → result_and v (Ok (header_of image)) ≡ Ok h → image_with_header h image ≡ image
     go (Ok _) q r =
         let w : 0x440 ≤ length image = (header-passed image q).whole in
         let f : header_of image ≡ h = cc in
@@ -195,5 +195,5 @@ module _ (h : DiscHeader) (s : Sized h) (image : List ℕ) (whole : 0x440 ≤ le
     }
 
     -- a header whose magics are good is read as it was written
-    pub read-after-write : header_read (header_written h image) ≡ Ok h
+    pub read-after-write : header_read (image_with_header h image) ≡ Ok h
     read-after-write = rw (le-ltb (length image) 0x440 whole, header-passes (put_header h image) good, read-write)

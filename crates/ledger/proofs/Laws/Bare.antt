@@ -8,7 +8,7 @@ use Rattle.std.proofs.Math.ListN.{get_or-map}
 use Rattle.refusal.specs.declared.Refusal.TheVariants.{ExpectedDirectory, UnsafeName}
 use Rattle.tree.specs.Table.{Node, file, directory, none, name_of, safe, plain, encloses, parent_below, parent_of}
 use Rattle.tree.specs.Lookup.{is_directory, next_of, stays, goes_back, first_child, child_of}
-use Rattle.tree.specs.Insert.{earlier, later, splice, insert_at, placed, set_place, empty_directory}
+use Rattle.tree.specs.Insert.{node_before, node_after, splice, insert_at, placed, set_place, empty_directory}
 use Rattle.edits.specs.Edits.{new_number, Made, stopped, made, made_back, if_found, make}
 use Rattle.ledger.specs.Ledger.{bare, files_before, made_nodes}
 
@@ -30,7 +30,7 @@ bare-encloses : (x : Node) (k : ℕ) → encloses (bare x) k ≡ encloses x k
 bare-encloses (file nm offset size) k = refl
 bare-encloses (directory nm next) k = refl
 
-bare-earlier : (p k : ℕ) (x : Node) → bare (earlier p k x) ≡ earlier p k (bare x)
+bare-earlier : (p k : ℕ) (x : Node) → bare (node_before p k x) ≡ node_before p k (bare x)
 bare-earlier p k (file nm offset size) = refl
 bare-earlier p k (directory nm next) = refl
 
@@ -85,7 +85,7 @@ child-bare nodes d nm = rw (next-bare nodes d) (first-bare nodes d nm (suc d) (n
 
 -- ---- an entry put in, a place changed
 
-later-bare : (xs : List Node) → map bare (map later xs) ≡ map later (map bare xs)
+later-bare : (xs : List Node) → map bare (map node_after xs) ≡ map node_after (map bare xs)
 later-bare [] = refl
 later-bare (file nm offset size ∷ xs) = rw (later-bare xs)
 later-bare (directory nm next ∷ xs) = rw (later-bare xs)

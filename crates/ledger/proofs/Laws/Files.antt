@@ -7,7 +7,7 @@ use Rattle.std.proofs.Common.{ap, true≢false, arith}
 use mathlib.Core.List.{List, [], ◌∷◌, map}
 use Rattle.tree.specs.Table.{Node, file, directory, none}
 use Rattle.tree.specs.Lookup.{is_directory, next_of}
-use Rattle.tree.specs.Insert.{later, splice, insert_at, placed, set_place}
+use Rattle.tree.specs.Insert.{node_after, splice, insert_at, placed, set_place}
 use Rattle.space.specs.declared.region.DiscRegion.{DiscRegion}
 use Rattle.space.specs.Used.{nonempty, used_regions, no_region}
 use Rattle.executable.specs.Program.{program_behind}
@@ -36,7 +36,7 @@ places_in image = program_behind image ∷ files_in image
 -- ---- an entry put in
 
 module _ {A : Type 0} (g : List ℕ → ℕ → ℕ → A) where
-  pick-later : (xs : List Node) → pick g (map later xs) ≡ pick g xs
+  pick-later : (xs : List Node) → pick g (map node_after xs) ≡ pick g xs
   unfolding pick
   pick-later [] = refl
   pick-later (file nm offset size ∷ xs) = rw (pick-later xs)

@@ -10,11 +10,11 @@ use Rattle.refusal.specs.declared.Refusal.{Refusal}
 use Rattle.refusal.specs.declared.Refusal.TheVariants.{NotFound}
 use Rattle.tree.specs.Table.{Node, file, directory, name_of, none, parent_of}
 use Rattle.tree.specs.Lookup.{is_directory, next_of, child_named, child_of}
-use Rattle.tree.specs.Insert.{earlier, later, insert_at, shifted}
+use Rattle.tree.specs.Insert.{node_before, node_after, insert_at, shifted}
 use Rattle.tree.proofs.Laws.Nesting.{parent-most}
 use Rattle.tree.proofs.Laws.NestedInsert
-use Rattle.tree.proofs.Laws.InsertedList.{IsNested, Fresh, name-earlier, name-later, shifted-min, q≤n, p<q, inserted-before, inserted-at, inserted-after}
-use Rattle.tree.proofs.Laws.NestedInsert.{place, Place, before, after, earlier_up, earlier-same, is-earlier, is_later, new-most}
+use Rattle.tree.proofs.Laws.InsertedList.{IsNested, Fresh, name_of-node_before, name_of-node_after, shifted-min, q≤n, p<q, inserted-before, inserted-at, inserted-after}
+use Rattle.tree.proofs.Laws.NestedInsert.{place, Place, before, after, next_of-node_before, next_of-node_before-same, is_directory-node_before, is_later, new-most}
 use Rattle.tree.proofs.Laws.InsertedParents.{around, between, parent-inserted-before, parent-inserted-at, parent-inserted-after}
 use Rattle.tree.proofs.Laws.Children.{Child, child-is, child-at, child-none, child-missing, child-named}
 
@@ -62,12 +62,12 @@ module _ (nodes : List Node) (p q : ℕ) (nm : List ℕ) (new : Node) (w : IsNes
 
   pub kept-name : (k : ℕ) → k < length nodes → name_of (get_or N (shifted q k) none) ≡ name_of (get_or nodes k none)
   kept-name k h =
-      ⊎_elim (λ (l : k < q). rw (shifted-low q k l, inserted-before nodes p q nm new w dir p<n k l) (name-earlier p k (get_or nodes k none)))
-      (λ (l : q ≤ k). rw (shifted-high q k l, inserted-after nodes p q nm new w dir p<n k l h) (name-later (get_or nodes k none))) (lt-or-le k q)
+      ⊎_elim (λ (l : k < q). rw (shifted-low q k l, inserted-before nodes p q nm new w dir p<n k l) (name_of-node_before p k (get_or nodes k none)))
+      (λ (l : q ≤ k). rw (shifted-high q k l, inserted-after nodes p q nm new w dir p<n k l h) (name_of-node_after (get_or nodes k none))) (lt-or-le k q)
 
   pub kept-kind : (k : ℕ) → k < length nodes → is_directory (get_or N (shifted q k) none) ≡ is_directory (get_or nodes k none)
   kept-kind k h =
-      ⊎_elim (λ (l : k < q). rw (shifted-low q k l, inserted-before nodes p q nm new w dir p<n k l) (is-earlier p k (get_or nodes k none)))
+      ⊎_elim (λ (l : k < q). rw (shifted-low q k l, inserted-before nodes p q nm new w dir p<n k l) (is_directory-node_before p k (get_or nodes k none)))
       (λ (l : q ≤ k). rw (shifted-high q k l, inserted-after nodes p q nm new w dir p<n k l h) (is_later (get_or nodes k none))) (lt-or-le k q)
 
   named-shifted : (d : ℕ) (name : List ℕ) (k : ℕ) → k < length nodes → child_named N (shifted q d) name (shifted q k) ≡ child_named nodes d name k
@@ -87,15 +87,15 @@ module _ (nodes : List Node) (p q : ℕ) (nm : List ℕ) (new : Node) (w : IsNes
       (⊎_elim (λ (b : p < d). low b a (get_or nodes d none) (between nodes p q nm new w dir p<n d b a)) (λ (b : d ≤ p). up b (get_or nodes d none) (around nodes p q nm new w dir p<n d b)) (lt-or-le p d)))
       (λ (a : q ≤ d). rw (shifted-high q d a, inserted-after nodes p q nm new w dir p<n d a h) (behind a (get_or nodes d none))) (lt-or-le d q)
     where
-      low : p < d → d < q → (y : Node) → next_of y ≤ q → (j < next_of y → shifted q j < next_of (earlier p d y)) × (shifted q j < next_of (earlier p d y) → j < next_of y)
-      low b a y m = (λ i. omega (arith, shifted-min q j, earlier-same p d y b), λ i. omega (arith, shifted-min q j, earlier-same p d y b))
+      low : p < d → d < q → (y : Node) → next_of y ≤ q → (j < next_of y → shifted q j < next_of (node_before p d y)) × (shifted q j < next_of (node_before p d y) → j < next_of y)
+      low b a y m = (λ i. omega (arith, shifted-min q j, next_of-node_before-same p d y b), λ i. omega (arith, shifted-min q j, next_of-node_before-same p d y b))
 
-      up : d ≤ p → (y : Node) → (p < next_of y → q ≤ next_of y) → (j < next_of y → shifted q j < next_of (earlier p d y)) × (shifted q j < next_of (earlier p d y) → j < next_of y)
+      up : d ≤ p → (y : Node) → (p < next_of y → q ≤ next_of y) → (j < next_of y → shifted q j < next_of (node_before p d y)) × (shifted q j < next_of (node_before p d y) → j < next_of y)
       up b y f =
-          ⊎_elim (λ (c : p < next_of y). let g : q ≤ next_of y = f c in (λ i. omega (arith, shifted-min q j, earlier_up p d y b), λ i. omega (arith, shifted-min q j, earlier_up p d y b)))
-          (λ (c : next_of y ≤ p). (λ i. omega (arith, shifted-min q j, earlier_up p d y b, p<), λ i. omega (arith, shifted-min q j, earlier_up p d y b, p<))) (lt-or-le p (next_of y))
+          ⊎_elim (λ (c : p < next_of y). let g : q ≤ next_of y = f c in (λ i. omega (arith, shifted-min q j, next_of-node_before p d y b), λ i. omega (arith, shifted-min q j, next_of-node_before p d y b)))
+          (λ (c : next_of y ≤ p). (λ i. omega (arith, shifted-min q j, next_of-node_before p d y b, p<), λ i. omega (arith, shifted-min q j, next_of-node_before p d y b, p<))) (lt-or-le p (next_of y))
 
-      behind : q ≤ d → (y : Node) → (j < next_of y → shifted q j < next_of (later y)) × (shifted q j < next_of (later y) → j < next_of y)
+      behind : q ≤ d → (y : Node) → (j < next_of y → shifted q j < next_of (node_after y)) × (shifted q j < next_of (node_after y) → j < next_of y)
       behind a (file x b c) = (λ i. absurd (omega arith), λ i. absurd (omega arith))
       behind a (directory x n) = (λ i. omega (arith, shifted-min q j), λ i. omega (arith, shifted-min q j))
 
@@ -143,7 +143,7 @@ module _ (nodes : List Node) (p q : ℕ) (nm : List ℕ) (new : Node) (w : IsNes
   -- ---- directory p itself
 
   next_here : next_of (get_or N p none) ≡ suc q
-  next_here = rw (inserted-before nodes p q nm new w dir p<n p p<, dir) (earlier_up p p (directory nm q) (omega arith) ∙ one)
+  next_here = rw (inserted-before nodes p q nm new w dir p<n p p<, dir) (next_of-node_before p p (directory nm q) (omega arith) ∙ one)
     where
       one : q + min 1 (q - p) ≡ suc q
       one = omega (arith, p<)

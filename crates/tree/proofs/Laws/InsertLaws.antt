@@ -5,8 +5,8 @@ use mathlib.Core.List.{List, [], ◌∷◌, tail}
 use Rattle.tree.specs.Table.{Node, directory, name_of, none, parent_of, shallow_from, shallow}
 use Rattle.tree.specs.Inner.WellFormed.{IsGoodName, IsGoodEntry, IsSound, IsWellFormed}
 use Rattle.tree.specs.Lookup.{next_of}
-use Rattle.tree.specs.Insert.{bump, earlier, later, splice, insert_at, shifted}
-pub use Rattle.tree.proofs.Laws.InsertedList.{Fresh, bump-min, shifted-min, name-earlier, name-later}
+use Rattle.tree.specs.Insert.{bump, node_before, node_after, splice, insert_at, shifted}
+pub use Rattle.tree.proofs.Laws.InsertedList.{Fresh, bump-min, shifted-min, name_of-node_before, name_of-node_after}
 use Rattle.tree.proofs.Laws.InsertedList.{well-nested, length-splice, length_inserted, inserted-before, inserted-at, inserted-after}
 use Rattle.tree.proofs.Laws.InsertedParents.{parent-inserted-before, parent-inserted-at, parent-inserted-after}
 use Rattle.tree.proofs.Laws.OpenDirectories.{open_at, sound-at, stack_is}
@@ -80,13 +80,13 @@ module _ (nodes : List Node) (p q : ℕ) (nm : List ℕ) (new : Node) (w : IsWel
   length-insert = length_inserted nodes p q nm new (well-nested nodes w) here p<n
 
   -- entry k, before the new one; the new one; and entry k, which comes after it
-  pub insert-before : (k : ℕ) → k < q → get_or (insert_at p new nodes) k none ≡ earlier p k (get_or nodes k none)
+  pub insert-before : (k : ℕ) → k < q → get_or (insert_at p new nodes) k none ≡ node_before p k (get_or nodes k none)
   insert-before = inserted-before nodes p q nm new (well-nested nodes w) here p<n
 
   pub insert-at : get_or (insert_at p new nodes) q none ≡ new
   insert-at = inserted-at nodes p q nm new (well-nested nodes w) here p<n
 
-  pub insert-after : (k : ℕ) → q ≤ k → k < length nodes → get_or (insert_at p new nodes) (suc k) none ≡ later (get_or nodes k none)
+  pub insert-after : (k : ℕ) → q ≤ k → k < length nodes → get_or (insert_at p new nodes) (suc k) none ≡ node_after (get_or nodes k none)
   insert-after = inserted-after nodes p q nm new (well-nested nodes w) here p<n
 
   -- their parents

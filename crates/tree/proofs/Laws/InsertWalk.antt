@@ -9,9 +9,9 @@ use Rattle.std.proofs.lemmas.Bool.{lt-leb}
 use Rattle.std.proofs.lemmas.List.{length-map}
 use Rattle.tree.specs.Table.{Node, file, directory, name_of, none, top, shut, enter, shallow_entry, shallow_from}
 use Rattle.tree.specs.Inner.WellFormed.{IsGoodName, IsGoodEntry, IsSound}
-use Rattle.tree.specs.Insert.{bump, earlier, later, splice}
+use Rattle.tree.specs.Insert.{bump, node_before, node_after, splice}
 use Rattle.tree.proofs.Laws.Steps.{shut_open, shut-pop}
-pub use Rattle.tree.proofs.Laws.InsertedList.{Fresh, bump-min, shifted-min, name-earlier, name-later}
+pub use Rattle.tree.proofs.Laws.InsertedList.{Fresh, bump-min, shifted-min, name_of-node_before, name_of-node_after}
 use Rattle.tree.proofs.Laws.OpenDirectories.{open_at}
 use Rattle.refusal.specs.Laws.Tests.{and-swap}
 
@@ -99,41 +99,41 @@ module _ (p : ℕ) where
   bump-top n (m ∷ s) h e = omega (arith, bump-min p n, bump-min p m)
 
   -- ---- an entry up to p
-  good-before : (c k : ℕ) (s : List ℕ) (x : Node) → k ≤ p → IsGoodEntry c s k x → IsGoodEntry (suc c) (map (bump p) s) k (earlier p k x)
+  good-before : (c k : ℕ) (s : List ℕ) (x : Node) → k ≤ p → IsGoodEntry c s k x → IsGoodEntry (suc c) (map (bump p) s) k (node_before p k x)
   good-before c k s (file nm offset size) h g = g
   good-before c k s (directory nm next) h g =
       rw (le-leb k p h) (omega (arith, bump-min p next), omega (arith, bump-min p next), bump-top next s (omega arith) g.2)
 
-  enter-before : (k : ℕ) (s : List ℕ) (x : Node) → k ≤ p → enter (map (bump p) s) (earlier p k x) ≡ map (bump p) (enter s x)
+  enter-before : (k : ℕ) (s : List ℕ) (x : Node) → k ≤ p → enter (map (bump p) s) (node_before p k x) ≡ map (bump p) (enter s x)
   enter-before k s (file nm offset size) h = refl
   enter-before k s (directory nm next) h = rw (le-leb k p h)
 
   -- ---- an entry after the new one
-  good-after : (c k : ℕ) (s : List ℕ) (x : Node) → p < k → IsGoodEntry c s k x → IsGoodEntry (suc c) (map (bump p) s) (suc k) (later x)
+  good-after : (c k : ℕ) (s : List ℕ) (x : Node) → p < k → IsGoodEntry c s k x → IsGoodEntry (suc c) (map (bump p) s) (suc k) (node_after x)
   good-after c k s (file nm offset size) h g = g
   good-after c k s (directory nm next) h g =
       (omega arith, omega arith, omega (arith, bump-min p next, bump-top next s (omega arith) g.2))
 
-  enter-after : (c k : ℕ) (s t : List ℕ) (x : Node) → p < k → IsGoodEntry c t k x → enter (map (bump p) s) (later x) ≡ map (bump p) (enter s x)
+  enter-after : (c k : ℕ) (s t : List ℕ) (x : Node) → p < k → IsGoodEntry c t k x → enter (map (bump p) s) (node_after x) ≡ map (bump p) (enter s x)
   enter-after c k s t (file nm offset size) h g = refl
   enter-after c k s t (directory nm next) h g = ap (λ (n : ℕ). n ∷ map (bump p) s) (omega (arith, bump-min p next))
 
   -- the same depth
-  same_length : (s s' : List ℕ) (x : Node) → length s' ≡ length s → (shallow_entry s' (later x) ≡ shallow_entry s x) × ((k : ℕ) → shallow_entry s' (earlier p k x) ≡ shallow_entry s x)
+  same_length : (s s' : List ℕ) (x : Node) → length s' ≡ length s → (shallow_entry s' (node_after x) ≡ shallow_entry s x) × ((k : ℕ) → shallow_entry s' (node_before p k x) ≡ shallow_entry s x)
   same_length s s' (file nm offset size) e = (refl, λ k. refl)
   same_length s s' (directory nm next) e = (rw e, λ k. rw e)
 
-  enter-between : (k : ℕ) (s : List ℕ) (x : Node) → p < k → enter s (earlier p k x) ≡ enter s x
+  enter-between : (k : ℕ) (s : List ℕ) (x : Node) → p < k → enter s (node_before p k x) ≡ enter s x
   enter-between k s (file nm offset size) h = refl
   enter-between k s (directory nm next) h = rw (lt-leb k p h)
 
   sound-after : (c k : ℕ) (dirs dirs' : List ℕ) (xs : List Node) → p < k → shut (suc k) dirs' ≡ map (bump p) (shut k dirs) → IsSound c dirs k xs →
-      IsSound (suc c) dirs' (suc k) (map later xs) × (shallow_from dirs' (suc k) (map later xs) ≡ shallow_from dirs k xs)
+      IsSound (suc c) dirs' (suc k) (map node_after xs) × (shallow_from dirs' (suc k) (map node_after xs) ≡ shallow_from dirs k xs)
   unfolding shallow_from
   sound-after c k dirs dirs' [] h e g = (tt, refl)
   sound-after c k dirs dirs' (x ∷ xs) h e g =
       let ih = sound-after c (suc k) (enter (shut k dirs) x) (map (bump p) (enter (shut k dirs) x)) xs (omega arith) (after-shut (suc k) _ (omega arith)) g.2 in
-      rw (e, name-later x, enter-after c k (shut k dirs) (shut k dirs) x h g.1, ih.1, (same_length (shut k dirs) (map (bump p) (shut k dirs)) x (length-map (shut k dirs) (bump p))).0)
+      rw (e, name_of-node_after x, enter-after c k (shut k dirs) (shut k dirs) x h g.1, ih.1, (same_length (shut k dirs) (map (bump p) (shut k dirs)) x (length-map (shut k dirs) (bump p))).0)
       ((g.0, good-after c k (shut k dirs) x h g.1, ih.0), refl)
 
   -- ---- an entry between p and the new one
@@ -154,7 +154,7 @@ module _ (p : ℕ) where
     top-between n (d ∷ ds) h = h
 
     good-between : (k : ℕ) (ds : List ℕ) (x : Node) → p < k → IsGoodEntry c (ds ++ (q ∷ up)) k x →
-        IsGoodEntry (suc c) (ds ++ (suc q ∷ map (bump p) up)) k (earlier p k x)
+        IsGoodEntry (suc c) (ds ++ (suc q ∷ map (bump p) up)) k (node_before p k x)
     good-between k ds (file nm offset size) h g = g
     good-between k ds (directory nm next) h g = rw (lt-leb k p h) (g.0, omega arith, top-between next ds g.2)
 
@@ -185,7 +185,7 @@ module _ (p : ℕ) where
         rw (
           s,
           s',
-          name-earlier p k x,
+          name_of-node_before p k x,
           enter-between k (shut k ds ++ (suc q ∷ map (bump p) up)) x h,
           enter-append (shut k ds) (suc q ∷ map (bump p) up) x,
           enter-append (shut k ds) (q ∷ up) x,
@@ -207,13 +207,13 @@ module _ (p : ℕ) where
         let b : bump p q ≡ suc q = omega (arith, bump-min p q) in
         let g₂ : IsSound c (q ∷ shut k dirs) (suc k) xs = rw x at g.2 in
         let f = sound-between c q new (shut k dirs) p<q q≤c named fresh j (suc k) [] xs (omega arith) (omega arith) (omega arith) tt g₂ in
-        rw (before-shut k dirs (omega arith), name-earlier p k y, (same_length (shut k dirs) (map (bump p) (shut k dirs)) y (length-map (shut k dirs) (bump p))).1 k, enter-before k (shut k dirs) y (omega arith)) (
+        rw (before-shut k dirs (omega arith), name_of-node_before p k y, (same_length (shut k dirs) (map (bump p) (shut k dirs)) y (length-map (shut k dirs) (bump p))).1 k, enter-before k (shut k dirs) y (omega arith)) (
           (g.0, good-before c k (shut k dirs) y (omega arith) g.1, rw (x, b) f.0),
           rw (x, b, f.1) (and-swap (shallow_entry (shut k dirs) (directory nm q)) (depth_ok (suc (length (shut k dirs))) new) _),
         )
     sound-before (suc i) (suc j) k dirs (y ∷ xs) e₁ e₂ l x h g =
         let ih = sound-before i j (suc k) (enter (shut k dirs) y) xs (omega arith) (omega arith) (omega arith) x (omega arith) g.2 in
-        rw (before-shut k dirs (omega arith), name-earlier p k y, (same_length (shut k dirs) (map (bump p) (shut k dirs)) y (length-map (shut k dirs) (bump p))).1 k, enter-before k (shut k dirs) y (omega arith), ih.1) (
+        rw (before-shut k dirs (omega arith), name_of-node_before p k y, (same_length (shut k dirs) (map (bump p) (shut k dirs)) y (length-map (shut k dirs) (bump p))).1 k, enter-before k (shut k dirs) y (omega arith), ih.1) (
           (g.0, good-before c k (shut k dirs) y (omega arith) g.1, ih.0),
           and-swap (shallow_entry (shut k dirs) y) (depth_ok (suc (length (open_at (enter (shut k dirs) y) (suc k) xs i))) new) _,
         )

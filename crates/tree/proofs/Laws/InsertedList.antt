@@ -5,7 +5,7 @@ use Rattle.std.proofs.lemmas.List.{length-map}
 use Rattle.tree.specs.Table.{Node, file, directory, name_of, none, encloses}
 use Rattle.tree.specs.Inner.WellFormed.{IsWellFormed}
 use Rattle.tree.specs.Lookup.{is_directory, next_of}
-use Rattle.tree.specs.Insert.{bump, earlier, later, splice, insert_at, shifted}
+use Rattle.tree.specs.Insert.{bump, node_before, node_after, splice, insert_at, shifted}
 use Rattle.tree.proofs.Laws.Nesting.{Inside}
 use Rattle.tree.proofs.Laws.WellNested.{next-bounds, nests}
 
@@ -57,23 +57,23 @@ ltb-suc a b = go (ltb a b) refl
     go true e = lt-ltb (suc a) (suc b) (omega (arith, ltb-true a b e))
     go false e = le-ltb (suc a) (suc b) (omega (arith, ltb-false a b e))
 
-pub name-earlier : (p k : ℕ) (x : Node) → name_of (earlier p k x) ≡ name_of x
-name-earlier p k (file nm offset size) = refl
-name-earlier p k (directory nm next) = refl
+pub name_of-node_before : (p k : ℕ) (x : Node) → name_of (node_before p k x) ≡ name_of x
+name_of-node_before p k (file nm offset size) = refl
+name_of-node_before p k (directory nm next) = refl
 
-pub name-later : (x : Node) → name_of (later x) ≡ name_of x
-name-later (file nm offset size) = refl
-name-later (directory nm next) = refl
+pub name_of-node_after : (x : Node) → name_of (node_after x) ≡ name_of x
+name_of-node_after (file nm offset size) = refl
+name_of-node_after (directory nm next) = refl
 
 -- ---- the list
 
 pub length-splice : (p : ℕ) (new : Node) (k j : ℕ) (xs : List Node) → j ≤ length xs → length (splice p new k j xs) ≡ suc (length xs)
 unfolding splice
-length-splice p new k zero xs h = ap suc (length-map xs later)
+length-splice p new k zero xs h = ap suc (length-map xs node_after)
 length-splice p new k (suc j) [] h = absurd (omega arith)
 length-splice p new k (suc j) (x ∷ xs) h = ap suc (length-splice p new (suc k) j xs (omega arith))
 
-splice-before : (p : ℕ) (new : Node) (k j : ℕ) (xs : List Node) (i : ℕ) → i < j → j ≤ length xs → get_or (splice p new k j xs) i none ≡ earlier p (k + i) (get_or xs i none)
+splice-before : (p : ℕ) (new : Node) (k j : ℕ) (xs : List Node) (i : ℕ) → i < j → j ≤ length xs → get_or (splice p new k j xs) i none ≡ node_before p (k + i) (get_or xs i none)
 unfolding splice
 splice-before p new k zero xs i h l = absurd (omega arith)
 splice-before p new k (suc j) [] i h l = absurd (omega arith)
@@ -88,14 +88,14 @@ splice_at p new k zero xs l = refl
 splice_at p new k (suc j) [] l = absurd (omega arith)
 splice_at p new k (suc j) (x ∷ xs) l = splice_at p new (suc k) j xs (omega arith)
 
-map-later : (xs : List Node) (i : ℕ) → i < length xs → get_or (map later xs) i none ≡ later (get_or xs i none)
-map-later [] i h = absurd (omega arith)
-map-later (x ∷ xs) zero h = refl
-map-later (x ∷ xs) (suc i) h = map-later xs i (omega arith)
+map-node_after : (xs : List Node) (i : ℕ) → i < length xs → get_or (map node_after xs) i none ≡ node_after (get_or xs i none)
+map-node_after [] i h = absurd (omega arith)
+map-node_after (x ∷ xs) zero h = refl
+map-node_after (x ∷ xs) (suc i) h = map-node_after xs i (omega arith)
 
-splice-after : (p : ℕ) (new : Node) (k j : ℕ) (xs : List Node) (i : ℕ) → j ≤ i → i < length xs → get_or (splice p new k j xs) (suc i) none ≡ later (get_or xs i none)
+splice-after : (p : ℕ) (new : Node) (k j : ℕ) (xs : List Node) (i : ℕ) → j ≤ i → i < length xs → get_or (splice p new k j xs) (suc i) none ≡ node_after (get_or xs i none)
 unfolding splice
-splice-after p new k zero xs i h l = map-later xs i l
+splice-after p new k zero xs i h l = map-node_after xs i l
 splice-after p new k (suc j) [] i h l = absurd (omega arith)
 splice-after p new k (suc j) (x ∷ xs) zero h l = absurd (omega arith)
 splice-after p new k (suc j) (x ∷ xs) (suc i) h l = splice-after p new (suc k) j xs i (omega arith) (omega arith)
@@ -116,11 +116,11 @@ module _ (nodes : List Node) (p q : ℕ) (nm : List ℕ) (new : Node) (w : IsNes
   length_inserted = rw is-splice (length-splice p new 0 q nodes q≤n)
 
   -- entry k, before the new one; the new one; and entry k, which comes after it
-  pub inserted-before : (k : ℕ) → k < q → get_or (insert_at p new nodes) k none ≡ earlier p k (get_or nodes k none)
-  inserted-before k h = rw (is-splice, splice-before p new 0 q nodes k h q≤n) (ap (λ (m : ℕ). earlier p m (get_or nodes k none)) (omega arith))
+  pub inserted-before : (k : ℕ) → k < q → get_or (insert_at p new nodes) k none ≡ node_before p k (get_or nodes k none)
+  inserted-before k h = rw (is-splice, splice-before p new 0 q nodes k h q≤n) (ap (λ (m : ℕ). node_before p m (get_or nodes k none)) (omega arith))
 
   pub inserted-at : get_or (insert_at p new nodes) q none ≡ new
   inserted-at = rw is-splice (splice_at p new 0 q nodes q≤n)
 
-  pub inserted-after : (k : ℕ) → q ≤ k → k < length nodes → get_or (insert_at p new nodes) (suc k) none ≡ later (get_or nodes k none)
+  pub inserted-after : (k : ℕ) → q ≤ k → k < length nodes → get_or (insert_at p new nodes) (suc k) none ≡ node_after (get_or nodes k none)
   inserted-after k h l = rw is-splice (splice-after p new 0 q nodes k h l)

@@ -4,7 +4,7 @@ use Rattle.std.proofs.Common.{sym, ap, ◌∙◌, arith, ltb-true, leb-true, leb
 use Rattle.std.proofs.lemmas.Bool.{lt-leb}
 use Rattle.tree.specs.Table.{Node, file, directory, none, encloses, parent_below, parent_of}
 use Rattle.tree.specs.Lookup.{next_of}
-use Rattle.tree.specs.Insert.{bump, earlier, later, insert_at, shifted}
+use Rattle.tree.specs.Insert.{bump, node_before, node_after, insert_at, shifted}
 use Rattle.tree.proofs.Laws.Nesting.{parent-step, parent-lower, below-lt, parent_is, ended}
 use Rattle.tree.proofs.Laws.InsertedList.{IsNested, encloses-is, Fresh, bump-min, shifted-min, ltb-suc, q≤n, p<q, inserted-before, inserted-at, inserted-after}
 
@@ -16,7 +16,7 @@ below-same a b k m zero f = refl
 below-same a b k m (suc i) f = rw (f i (omega arith), below-same a b k m i (λ j h. f j (omega arith)))
 
 -- an entry j up to p, seen from entry k before the new one: a directory that ends past p ends at q or later
-up-before : (p q j k : ℕ) (x : Node) → j ≤ p → k < q → (p < next_of x → q ≤ next_of x) → encloses (earlier p j x) k ≡ encloses x k
+up-before : (p q j k : ℕ) (x : Node) → j ≤ p → k < q → (p < next_of x → q ≤ next_of x) → encloses (node_before p j x) k ≡ encloses x k
 unfolding bump
 up-before p q j k (file nm offset size) h l f = refl
 up-before p q j k (directory nm n) h l f = rw (le-leb j p h) (go (ltb p n) refl)
@@ -28,7 +28,7 @@ up-before p q j k (directory nm n) h l f = rw (le-leb j p h) (go (ltb p n) refl)
     go false e = refl
 
 -- seen from entry k, which comes after the new one
-up-after : (p j k : ℕ) (x : Node) → j ≤ p → p < k → encloses (earlier p j x) (suc k) ≡ encloses x k
+up-after : (p j k : ℕ) (x : Node) → j ≤ p → p < k → encloses (node_before p j x) (suc k) ≡ encloses x k
 unfolding bump
 up-after p j k (file nm offset size) h l = refl
 up-after p j k (directory nm n) h l = rw (le-leb j p h) (go (ltb p n) refl)
@@ -40,11 +40,11 @@ up-after p j k (directory nm n) h l = rw (le-leb j p h) (go (ltb p n) refl)
         le-ltb (suc k) n (omega arith) ∙ sym (le-ltb k n (omega arith))
 
 -- an entry j between p and the new one
-between-same : (p j k : ℕ) (x : Node) → p < j → encloses (earlier p j x) k ≡ encloses x k
+between-same : (p j k : ℕ) (x : Node) → p < j → encloses (node_before p j x) k ≡ encloses x k
 between-same p j k (file nm offset size) h = refl
 between-same p j k (directory nm n) h = rw (lt-leb j p h)
 
-pub later_same : (k : ℕ) (x : Node) → encloses (later x) (suc k) ≡ encloses x k
+pub later_same : (k : ℕ) (x : Node) → encloses (node_after x) (suc k) ≡ encloses x k
 later_same k (file nm offset size) = refl
 later_same k (directory nm n) = ltb-suc k n
 
@@ -70,14 +70,14 @@ module _ (nodes : List Node) (p q : ℕ) (nm : List ℕ) (new : Node) (w : IsNes
   pub encl-before : (k : ℕ) → k < q → (j : ℕ) → j < k → encloses (get_or (insert_at p new nodes) j none) k ≡ encloses (get_or nodes j none) k
   encl-before k h j l = rw (inserted-before nodes p q nm new w here p<n j (omega arith)) (go (leb j p) refl)
     where
-      go : (t : Bool) → leb j p ≡ t → encloses (earlier p j (get_or nodes j none)) k ≡ encloses (get_or nodes j none) k
+      go : (t : Bool) → leb j p ≡ t → encloses (node_before p j (get_or nodes j none)) k ≡ encloses (get_or nodes j none) k
       go true e = up-before p q j k (get_or nodes j none) (leb-true j p e) h (around j (leb-true j p e))
       go false e = between-same p j k (get_or nodes j none) (leb-false j p e)
 
   pub encl-after : (k : ℕ) → q ≤ k → (j : ℕ) → j < q → encloses (get_or (insert_at p new nodes) j none) (suc k) ≡ encloses (get_or nodes j none) k
   encl-after k h j l = rw (inserted-before nodes p q nm new w here p<n j l) (go (leb j p) refl)
     where
-      go : (t : Bool) → leb j p ≡ t → encloses (earlier p j (get_or nodes j none)) (suc k) ≡ encloses (get_or nodes j none) k
+      go : (t : Bool) → leb j p ≡ t → encloses (node_before p j (get_or nodes j none)) (suc k) ≡ encloses (get_or nodes j none) k
       go true e = up-after p j k (get_or nodes j none) (leb-true j p e) (omega (arith, p<q nodes p q nm new w here p<n))
       go false e =
           let b : next_of (get_or nodes j none) ≤ q = between j (leb-false j p e) l in

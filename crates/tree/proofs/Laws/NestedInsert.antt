@@ -5,42 +5,42 @@ use Rattle.std.proofs.lemmas.Bool.{lt-leb}
 use Rattle.refusal.specs.Laws.Tests.{lt-or-le}
 use Rattle.tree.specs.Table.{Node, file, directory, none, encloses}
 use Rattle.tree.specs.Lookup.{is_directory, next_of}
-use Rattle.tree.specs.Insert.{bump, earlier, later, insert_at}
+use Rattle.tree.specs.Insert.{bump, node_before, node_after, insert_at}
 use Rattle.tree.proofs.Laws.Nesting.{Inside}
 use Rattle.tree.proofs.Laws.InsertedList.{IsNested, encloses-is, Fresh, bump-min, q≤n, p<q, length_inserted, inserted-before, inserted-at, inserted-after}
 use Rattle.tree.proofs.Laws.InsertedParents.{later_same, new-ended, between, encl-before, encl-after}
 
 -- ---- directories still nest
 
-next-earlier : (p k : ℕ) (x : Node) → next_of (earlier p k x) ≡ cond (leb k p) (bump p (next_of x)) (next_of x)
+next_of-node_before-cases : (p k : ℕ) (x : Node) → next_of (node_before p k x) ≡ cond (leb k p) (bump p (next_of x)) (next_of x)
 unfolding bump
-next-earlier p k (directory nm n) = refl
-next-earlier p k (file nm a b) = go (leb k p)
+next_of-node_before-cases p k (directory nm n) = refl
+next_of-node_before-cases p k (file nm a b) = go (leb k p)
   where
     go : (t : Bool) → ◌≡◌ {A = ℕ} 0 (cond t (cond (ltb p 0) 1 0) 0)
     go true = rw (le-ltb p 0 (omega arith))
     go false = refl
 
 -- the raised next in one sum
-pub earlier_up : (p k : ℕ) (x : Node) → k ≤ p → next_of (earlier p k x) ≡ next_of x + min 1 (next_of x - p)
-earlier_up p k x h = next-earlier p k x ∙ rw (le-leb k p h) (bump-min p (next_of x))
+pub next_of-node_before : (p k : ℕ) (x : Node) → k ≤ p → next_of (node_before p k x) ≡ next_of x + min 1 (next_of x - p)
+next_of-node_before p k x h = next_of-node_before-cases p k x ∙ rw (le-leb k p h) (bump-min p (next_of x))
 
-pub earlier-same : (p k : ℕ) (x : Node) → p < k → next_of (earlier p k x) ≡ next_of x
-earlier-same p k x h = next-earlier p k x ∙ rw (lt-leb k p h)
+pub next_of-node_before-same : (p k : ℕ) (x : Node) → p < k → next_of (node_before p k x) ≡ next_of x
+next_of-node_before-same p k x h = next_of-node_before-cases p k x ∙ rw (lt-leb k p h)
 
-pub next-later : (x : Node) → 0 < next_of x → next_of (later x) ≡ suc (next_of x)
-next-later (file nm a b) h = absurd (omega arith)
-next-later (directory nm n) h = refl
+pub next_of-node_after : (x : Node) → 0 < next_of x → next_of (node_after x) ≡ suc (next_of x)
+next_of-node_after (file nm a b) h = absurd (omega arith)
+next_of-node_after (directory nm n) h = refl
 
-later-most : (x : Node) → next_of (later x) ≤ suc (next_of x)
-later-most (file nm a b) = omega arith
-later-most (directory nm n) = omega arith
+next_of-node_after-most : (x : Node) → next_of (node_after x) ≤ suc (next_of x)
+next_of-node_after-most (file nm a b) = omega arith
+next_of-node_after-most (directory nm n) = omega arith
 
-pub is-earlier : (p k : ℕ) (x : Node) → is_directory (earlier p k x) ≡ is_directory x
-is-earlier p k (file nm a b) = refl
-is-earlier p k (directory nm n) = refl
+pub is_directory-node_before : (p k : ℕ) (x : Node) → is_directory (node_before p k x) ≡ is_directory x
+is_directory-node_before p k (file nm a b) = refl
+is_directory-node_before p k (directory nm n) = refl
 
-pub is_later : (x : Node) → is_directory (later x) ≡ is_directory x
+pub is_later : (x : Node) → is_directory (node_after x) ≡ is_directory x
 is_later (file nm a b) = refl
 is_later (directory nm n) = refl
 
@@ -53,12 +53,12 @@ new-most q (file nm a b) f = omega arith
 new-most q (directory nm n) f = omega arith
 
 -- a next that may have been raised by one
-earlier-grows : (p k : ℕ) (x : Node) → (next_of x ≤ next_of (earlier p k x)) × (next_of (earlier p k x) ≤ suc (next_of x))
-earlier-grows p k x = go (leb k p) refl
+next_of-node_before-grows : (p k : ℕ) (x : Node) → (next_of x ≤ next_of (node_before p k x)) × (next_of (node_before p k x) ≤ suc (next_of x))
+next_of-node_before-grows p k x = go (leb k p) refl
   where
-    go : (t : Bool) → leb k p ≡ t → (next_of x ≤ next_of (earlier p k x)) × (next_of (earlier p k x) ≤ suc (next_of x))
-    go true e = (omega (arith, earlier_up p k x (leb-true k p e)), omega (arith, earlier_up p k x (leb-true k p e)))
-    go false e = (omega (arith, earlier-same p k x (leb-false k p e)), omega (arith, earlier-same p k x (leb-false k p e)))
+    go : (t : Bool) → leb k p ≡ t → (next_of x ≤ next_of (node_before p k x)) × (next_of (node_before p k x) ≤ suc (next_of x))
+    go true e = (omega (arith, next_of-node_before p k x (leb-true k p e)), omega (arith, next_of-node_before p k x (leb-true k p e)))
+    go false e = (omega (arith, next_of-node_before-same p k x (leb-false k p e)), omega (arith, next_of-node_before-same p k x (leb-false k p e)))
 
 -- a number of the new list is that of an earlier entry, of the new one, or of a later one
 pub data Place (q k : ℕ) : Type 0 where
@@ -85,10 +85,10 @@ module _ (nodes : List Node) (p q : ℕ) (nm : List ℕ) (new : Node) (w : IsNes
 
   nested-bounds : (k : ℕ) → Place q k → k < length N → is_directory (get_or N k none) ≡ true → (k < next_of (get_or N k none)) × (next_of (get_or N k none) ≤ length N)
   nested-bounds k (before l) h d =
-      let e : get_or N k none ≡ earlier p k (get_or nodes k none) = inserted-before nodes p q nm new w dir p<n k l in
+      let e : get_or N k none ≡ node_before p k (get_or nodes k none) = inserted-before nodes p q nm new w dir p<n k l in
       let x : Node = get_or nodes k none in
-      let b = w.bounds k (omega (arith, q≤)) (sym (is-earlier p k x) ∙ rw e at d) in
-      let g = earlier-grows p k x in
+      let b = w.bounds k (omega (arith, q≤)) (sym (is_directory-node_before p k x) ∙ rw e at d) in
+      let g = next_of-node_before-grows p k x in
       rw (e, len) (omega arith, omega arith)
   nested-bounds k (here k≡) h d =
       let e : get_or N k none ≡ new = rw k≡ (inserted-at nodes p q nm new w dir p<n) in
@@ -96,10 +96,10 @@ module _ (nodes : List Node) (p q : ℕ) (nm : List ℕ) (new : Node) (w : IsNes
       rw (e, len) (omega arith, omega (arith, q≤))
   nested-bounds k (after j k≡ l) h d =
       let j< : j < length nodes = omega (arith, len) in
-      let e : get_or N k none ≡ later (get_or nodes j none) = rw k≡ (inserted-after nodes p q nm new w dir p<n j l j<) in
+      let e : get_or N k none ≡ node_after (get_or nodes j none) = rw k≡ (inserted-after nodes p q nm new w dir p<n j l j<) in
       let x : Node = get_or nodes j none in
       let b = w.bounds j j< (sym (is_later x) ∙ rw e at d) in
-      let n : next_of (later x) ≡ suc (next_of x) = next-later x (omega arith) in
+      let n : next_of (node_after x) ≡ suc (next_of x) = next_of-node_after x (omega arith) in
       rw (e, len) (omega arith, omega arith)
 
   reaches : (d k : ℕ) → encloses (get_or N d none) k ≡ true → k < next_of (get_or N d none)
@@ -117,8 +117,8 @@ module _ (nodes : List Node) (p q : ℕ) (nm : List ℕ) (new : Node) (w : IsNes
       let g : j < next_of y = reached d j r in
       rw (inserted-before nodes p q nm new w dir p<n d l) (go y g f (λ b. between nodes p q nm new w dir p<n d b l) (leb d p) refl)
     where
-      go : (y : Node) → j < next_of y → next_of (get_or nodes j none) ≤ next_of y → (p < d → next_of y ≤ q) → (t : Bool) → leb d p ≡ t → suc (next_of (get_or nodes j none)) ≤ next_of (earlier p d y)
-      go y g f b true a = omega (arith, earlier_up p d y (leb-true d p a), p<q nodes p q nm new w dir p<n)
+      go : (y : Node) → j < next_of y → next_of (get_or nodes j none) ≤ next_of y → (p < d → next_of y ≤ q) → (t : Bool) → leb d p ≡ t → suc (next_of (get_or nodes j none)) ≤ next_of (node_before p d y)
+      go y g f b true a = omega (arith, next_of-node_before p d y (leb-true d p a), p<q nodes p q nm new w dir p<n)
       go y g f b false a = absurd (omega (arith, b (leb-false d p a)))
   later-inside d j (here d≡) h m j< e =
       let z : true ≡ false = sym e ∙ rw (d≡, inserted-at nodes p q nm new w dir p<n) (new-ended q j new fresh m) in
@@ -126,11 +126,11 @@ module _ (nodes : List Node) (p q : ℕ) (nm : List ℕ) (new : Node) (w : IsNes
       absurd (omega arith)
   later-inside d j (after i d≡ l) h m j< e =
       let i< : i < length nodes = omega arith in
-      let d' : get_or N d none ≡ later (get_or nodes i none) = rw d≡ (inserted-after nodes p q nm new w dir p<n i l i<) in
+      let d' : get_or N d none ≡ node_after (get_or nodes i none) = rw d≡ (inserted-after nodes p q nm new w dir p<n i l i<) in
       let r : encloses (get_or nodes i none) j ≡ true = sym (later_same j (get_or nodes i none)) ∙ rw d' at e in
       let f : next_of (get_or nodes j none) ≤ next_of (get_or nodes i none) = w.inside i j (omega arith, r) j< in
       let g : j < next_of (get_or nodes i none) = reached i j r in
-      let n : next_of (later (get_or nodes i none)) ≡ suc (next_of (get_or nodes i none)) = next-later (get_or nodes i none) (omega arith) in
+      let n : next_of (node_after (get_or nodes i none)) ≡ suc (next_of (get_or nodes i none)) = next_of-node_after (get_or nodes i none) (omega arith) in
       rw d' (omega arith)
 
   nested-inside : (d k : ℕ) → Place q k → Inside N d k → k < length N → next_of (get_or N k none) ≤ next_of (get_or N d none)
@@ -140,9 +140,9 @@ module _ (nodes : List Node) (p q : ℕ) (nm : List ℕ) (new : Node) (w : IsNes
       let f : next_of (get_or nodes k none) ≤ next_of (get_or nodes d none) = w.inside d k (i.0, r) (omega (arith, q≤)) in
       rw (inserted-before nodes p q nm new w dir p<n k l, inserted-before nodes p q nm new w dir p<n d d<) (go (leb k p) refl (get_or nodes d none) (get_or nodes k none) f i.0)
     where
-      go : (t : Bool) → leb k p ≡ t → (y x : Node) → next_of x ≤ next_of y → d < k → next_of (earlier p k x) ≤ next_of (earlier p d y)
-      go true a y x f b = let c : k ≤ p = leb-true k p a in omega (arith, earlier_up p k x c, earlier_up p d y (omega arith))
-      go false a y x f b = omega (arith, earlier-same p k x (leb-false k p a), (earlier-grows p d y).0)
+      go : (t : Bool) → leb k p ≡ t → (y x : Node) → next_of x ≤ next_of y → d < k → next_of (node_before p k x) ≤ next_of (node_before p d y)
+      go true a y x f b = let c : k ≤ p = leb-true k p a in omega (arith, next_of-node_before p k x c, next_of-node_before p d y (omega arith))
+      go false a y x f b = omega (arith, next_of-node_before-same p k x (leb-false k p a), (next_of-node_before-grows p d y).0)
   nested-inside d k (here k≡) i h =
       let r : k < next_of (get_or N d none) = reaches d k i.1 in
       let e : get_or N k none ≡ new = rw k≡ (inserted-at nodes p q nm new w dir p<n) in
@@ -150,9 +150,9 @@ module _ (nodes : List Node) (p q : ℕ) (nm : List ℕ) (new : Node) (w : IsNes
       rw e (omega arith)
   nested-inside d k (after j k≡ l) i h =
       let j< : j < length nodes = omega (arith, len) in
-      let e : get_or N k none ≡ later (get_or nodes j none) = rw k≡ (inserted-after nodes p q nm new w dir p<n j l j<) in
+      let e : get_or N k none ≡ node_after (get_or nodes j none) = rw k≡ (inserted-after nodes p q nm new w dir p<n j l j<) in
       let f : suc (next_of (get_or nodes j none)) ≤ next_of (get_or N d none) = later-inside d j (place q d) (omega (arith, i.0)) l j< (rw k≡ at i.1) in
-      rw e (omega (arith, later-most (get_or nodes j none)))
+      rw e (omega (arith, next_of-node_after-most (get_or nodes j none)))
 
   pub nested-insert : IsNested N
   nested-insert = record { bounds = λ k h d. nested-bounds k (place q k) h d; inside = λ d k i h. nested-inside d k (place q k) i h }

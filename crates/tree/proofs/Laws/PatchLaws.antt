@@ -14,8 +14,8 @@ use Rattle.tree.specs.Table.{Node, file, directory, name_of, none, name_offset, 
 use Rattle.tree.specs.Inner.WellFormed.{IsWellFormed}
 use Rattle.tree.specs.Lookup.{next_of}
 use Rattle.tree.proofs.Laws.WellNested.{next-bounds}
-use Rattle.tree.specs.Insert.{earlier, later, splice, insert_at, shifted, placed, set_place}
-use Rattle.tree.proofs.Laws.InsertLaws.{Fresh, name-later, name-earlier, length-insert, insert-before, insert-at, insert-after, parent-insert-before, parent-insert-at, parent-insert-after}
+use Rattle.tree.specs.Insert.{node_before, node_after, splice, insert_at, shifted, placed, set_place}
+use Rattle.tree.proofs.Laws.InsertLaws.{Fresh, name_of-node_after, name_of-node_before, length-insert, insert-before, insert-at, insert-after, parent-insert-before, parent-insert-at, parent-insert-after}
 use Rattle.tree.proofs.Laws.PlaceLaws.{name-placed, length-set_place, set_place-at, set_place-other, parent-set_place, texts-set_place}
 use Rattle.tree.proofs.Laws.WrittenEntries.{length-encode}
 use Rattle.tree.specs.Inner.Patch.{records, place_patch, record_before, record_after, patched_record, new_start, insert_patch}
@@ -68,23 +68,23 @@ module _ (offset size k : ℕ) (nodes : List Node) (nm : List ℕ) (a b : ℕ) (
 
 -- ---- an entry put in: the texts
 
-texts-later : (xs : List Node) (i : ℕ) → texts_of (take i (map later xs)) ≡ texts_of (take i xs)
+texts-later : (xs : List Node) (i : ℕ) → texts_of (take i (map node_after xs)) ≡ texts_of (take i xs)
 unfolding texts_of
 texts-later [] i = refl
 texts-later (x ∷ xs) zero = refl
-texts-later (x ∷ xs) (suc i) = rw (name-later x, texts-later xs i)
+texts-later (x ∷ xs) (suc i) = rw (name_of-node_after x, texts-later xs i)
 
-later-texts : (xs : List Node) → texts_of (map later xs) ≡ texts_of xs
+later-texts : (xs : List Node) → texts_of (map node_after xs) ≡ texts_of xs
 unfolding texts_of
 later-texts [] = refl
-later-texts (x ∷ xs) = rw (name-later x, later-texts xs)
+later-texts (x ∷ xs) = rw (name_of-node_after x, later-texts xs)
 
 module _ (p : ℕ) (new : Node) where
   pub texts-splice : (k j : ℕ) (xs : List Node) → j ≤ length xs → texts_of (splice p new k j xs) ≡ texts_of (take j xs) ++ (name_of new ++ (0 ∷ texts_of (drop j xs)))
   unfolding texts_of splice
   texts-splice k zero xs h = rw (later-texts xs)
   texts-splice k (suc j) [] h = absurd (omega arith)
-  texts-splice k (suc j) (x ∷ xs) h = rw (name-earlier p k x, texts-splice (suc k) j xs (omega arith)) (sym (append_assoc (name_of x) (0 ∷ texts_of (take j xs)) _))
+  texts-splice k (suc j) (x ∷ xs) h = rw (name_of-node_before p k x, texts-splice (suc k) j xs (omega arith)) (sym (append_assoc (name_of x) (0 ∷ texts_of (take j xs)) _))
 
   -- the texts of the first entries, up to the new one
   texts-before : (k j : ℕ) (xs : List Node) (i : ℕ) → i ≤ j → j ≤ length xs → texts_of (take i (splice p new k j xs)) ≡ texts_of (take i xs)
@@ -92,7 +92,7 @@ module _ (p : ℕ) (new : Node) where
   texts-before k j xs zero h l = refl
   texts-before k zero xs (suc i) h l = absurd (omega arith)
   texts-before k (suc j) [] (suc i) h l = absurd (omega arith)
-  texts-before k (suc j) (x ∷ xs) (suc i) h l = rw (name-earlier p k x, texts-before (suc k) j xs i (omega arith) (omega arith))
+  texts-before k (suc j) (x ∷ xs) (suc i) h l = rw (name_of-node_before p k x, texts-before (suc k) j xs i (omega arith) (omega arith))
 
   -- and past it
   texts-after : (k j : ℕ) (xs : List Node) (i : ℕ) → j ≤ i → j ≤ length xs → length (texts_of (take (suc i) (splice p new k j xs))) ≡ length (texts_of (take i xs)) + suc (length (name_of new))
@@ -102,7 +102,7 @@ module _ (p : ℕ) (new : Node) where
   texts-after k (suc j) (x ∷ xs) zero h l = absurd (omega arith)
   texts-after k (suc j) (x ∷ xs) (suc i) h l =
       let ih : length (texts_of (take (suc i) (splice p new (suc k) j xs))) ≡ length (texts_of (take i xs)) + suc (length (name_of new)) = texts-after (suc k) j xs i (omega arith) (omega arith) in
-      rw (name-earlier p k x, length-append (name_of x) (0 ∷ texts_of (take (suc i) (splice p new (suc k) j xs))), length-append (name_of x) (0 ∷ texts_of (take i xs))) (omega arith)
+      rw (name_of-node_before p k x, length-append (name_of x) (0 ∷ texts_of (take (suc i) (splice p new (suc k) j xs))), length-append (name_of x) (0 ∷ texts_of (take i xs))) (omega arith)
 
 pub tail-splice : (p : ℕ) (new : Node) (q : ℕ) (nodes : List Node) → 0 < q → q ≤ length nodes → tail (splice p new 0 q nodes) ≡ splice p new 1 (q - 1) (tail nodes)
 unfolding splice
@@ -120,12 +120,12 @@ other : (k q : ℕ) → q ≤ k → (k ≡ q → ⊥) → q < k
 other k q h f = ⊎_elim (λ e. e) (λ e. absurd (f (omega arith))) (lt-or-le q k)
 
 -- a record made from the fields that stand in the table
-before-read : (tab : List ℕ) (p k par o : ℕ) (x : Node) → Fields tab k par o x → record_before tab p k ≡ node_bytes par o (earlier p k x)
+before-read : (tab : List ℕ) (p k par o : ℕ) (x : Node) → Fields tab k par o x → record_before tab p k ≡ node_bytes par o (node_before p k x)
 unfolding record_before
 before-read tab p k par o (file nm offset size) f = rw (f.0, f.1, f.2, f.3)
 before-read tab p k par o (directory nm next) f = rw (f.0, f.1, f.2, f.3)
 
-after_read : (tab : List ℕ) (q grow k par o : ℕ) (x : Node) → Fields tab k par o x → record_after tab q grow k ≡ node_bytes (shifted q par) (o + grow) (later x)
+after_read : (tab : List ℕ) (q grow k par o : ℕ) (x : Node) → Fields tab k par o x → record_after tab q grow k ≡ node_bytes (shifted q par) (o + grow) (node_after x)
 unfolding record_after
 after_read tab q grow k par o (file nm offset size) f = rw (f.0, f.1, f.2, f.3)
 after_read tab q grow k par o (directory nm next) f = rw (f.0, f.1, f.2, f.3)

@@ -7,12 +7,12 @@ use borrow.Author.Tests.{lt-ltb, le-ltb}
 use lib.ListN.{length}
 use lib.Dec.{ltb}
 use Rattle.tree.specs.Table as tab
-use Rattle.table.specs.Rows.{list_verdict, listed}
+use Rattle.table.specs.Rows.{list_verdict, list_with_rows}
 use Rattle.table.proofs.RowLaws.{listing_start, listing-parents, listing-turn, listing-end}
 use Rattle.table.proofs.rows.list_entries.Goals as goal
 
 pub returns-then-list-count : goal.returns-then-list-count
-unfolding list_verdict listed
+unfolding list_verdict list_with_rows
 returns-then-list-count c =
     let T = c.args.table.now in
     let L = c.args.list.now in
