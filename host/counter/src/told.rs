@@ -121,7 +121,7 @@ pub fn notes(
     long.chain(without_case(&new, &trial.after, spell)).collect()
 }
 
-/// Places that the rules allow and other programs stumble over (docs/PEERS.md).
+/// Places that the rules allow and other programs stumble over (host/PEERS.md).
 fn places(to: u32, disc_end: u32) -> Vec<String> {
     let mut notes = Vec::new();
     if !to.is_multiple_of(4) {
