@@ -35,4 +35,3 @@ pub zeros-all : (n : ℕ) → AllBytes (replicate n 0)
 zeros-all zero i = omega arith
 zeros-all (suc n) zero = omega arith
 zeros-all (suc n) (suc i) = zeros-all n i
-
