@@ -1,6 +1,7 @@
 /* Counter: GameCube disc images, read and edited.
  *
- * The functions of libcounter.a. Each is proved to do what its comment says, on every image, every number and every amount of lent memory.
+ * The functions of libcounter.a. Each is proved to meet its contract (crates/counter), which its comment tells in words, on every
+ * image, number and amount of lent memory.
  * example.c beside this file is a whole program that lists an image and moves a file; link it with -lcounter.
  *
  * A slice is a pointer and a length, counted in elements. What a caller owes is valid memory: each pointer points to that many elements of
@@ -40,7 +41,7 @@
  *
  * Every call that takes words opens the image first, and refuses what opening refuses. Its tests, in this order: the header's fields (1),
  * Wii magic (2), GameCube magic (3); 4; the root (5, 6, 7); more entries than COUNTER_MOST_ENTRIES (9); each further entry in turn (5, 6);
- * 8; more bytes of names than COUNTER_MOST_TEXT (9); too few words (9); then each entry: 11, 12, 13 (not the root's), 10, a directory
+ * 8; more bytes of names than COUNTER_MOST_TEXT (9); too few words (9); a count of 0 (10); then each entry: 11, 12, 13 (not the root's), 10, a directory
  * deeper than COUNTER_MOST_LEVELS (9); then 24, for a DOL offset other than 0: the program's header passes the image, or one of its sums of
  * offset and size passes 2^32 - 1; then 14: two used regions overlap or one passes the disc end, or the program lies in neither of its places. The
  * calls' own tests follow, in the order in which their comments give them.
