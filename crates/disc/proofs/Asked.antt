@@ -19,12 +19,12 @@ use Rattle.window.specs.declared.Window.{Window}
 use Rattle.window.specs.Window.{new_window}
 use Rattle.opened.specs.Opening.{opening, table_of, nodes_in, free_space_of, free_of}
 use Rattle.opened.specs.Inner.Disc.{Opened, OpensAs, Means}
-use Rattle.opened.specs.Laws.Meant.{start_meant, nodes_meant, free_meant}
+use Rattle.opened.proofs.Laws.Meant.{start_meant, nodes_meant, free_meant}
 use Rattle.opened.specs.declared.summary.Disc as Told
 use Rattle.opened.specs.Answers.{behind, summary_of, max_region_size_answer}
 use Rattle.opened.specs.Inner.Told.{told_of}
-use Rattle.opened.specs.Laws.AnswerLaws.{behind-passed, asked, opened_means, opened_passes, told_meant}
-pub use Rattle.opened.specs.Laws.AnswerLaws.{not_asked}
+use Rattle.opened.proofs.Laws.AnswerLaws.{behind-passed, asked, opened_means, opened_passes, told_meant}
+pub use Rattle.opened.proofs.Laws.AnswerLaws.{not_asked}
 use Rattle.disc.specs.Calls.{free_answer, free_list}
 use Rattle.disc.specs.Files.{file_in, entry_answer, window_answer, open_file_answer, file_size_answer, max_file_size_answer, dol_verdict, dol_as, open_dol_answer}
 

@@ -12,7 +12,7 @@ use Rattle.opened.specs.Opening.{used_in, behind_table, free_space_of}
 use Rattle.opened.specs.Inner.Prepared.{IsOpen}
 use Rattle.opened.proofs.Laws.OpeningLaws.{used-regions}
 use Rattle.opened.specs.Inner.Disc.{Opened, Means}
-use Rattle.opened.specs.Laws.Meant.{start_meant, room_meant, end_meant, total_meant}
+use Rattle.opened.proofs.Laws.Meant.{start_meant, room_meant, end_meant, total_meant}
 use Rattle.disc.specs.Calls.{totals_of}
 
 largest-is : (image w : List ℕ) (m : ℕ) → IsOpen image w m → longest_from (disc_end image) 0 (record { offset = 0; size = 0 }) (table_end image) 0 (regions_in w 1 (m - 1)) ≡ largest_size (free_space_of image)

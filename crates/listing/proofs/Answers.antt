@@ -22,7 +22,7 @@ use Rattle.space.specs.Inner.Sort.{SameSums}
 use Rattle.space.specs.Inner.UsedSpace.{UsedSpace, free_in}
 use Rattle.opened.specs.Opening.{opening, Disc, free_of}
 use Rattle.opened.specs.Inner.Disc.{Opened, Means}
-use Rattle.opened.specs.Laws.Meant.{end_meant, nodes_meant, total_meant, free_meant}
+use Rattle.opened.proofs.Laws.Meant.{end_meant, nodes_meant, total_meant, free_meant}
 use Rattle.listing.specs.Inner.Fits.{IsLaid, size_or, listed_or, laid_or, text_of}
 use Rattle.opened.specs.Answers.{behind}
 use Rattle.listing.specs.Lines.{totals_line, entry_lines, region_lines}

@@ -1,7 +1,7 @@
 -- `disc::regions::make_record` meets its contract: the record of the disc, behind opening's tests.
 use Rattle.std.specs.Prelude.{Ok, Err}
 use Rattle.std.proofs.Common.{ap}
-use Rattle.opened.specs.Laws.AnswerLaws.{asked}
+use Rattle.opened.proofs.Laws.AnswerLaws.{asked}
 use Rattle.disc.specs.Calls.{record_answer}
 use Rattle.disc.proofs.regions.make_record.Goals as goal
 

@@ -5,7 +5,7 @@ use Rattle.std.proofs.lemmas.Result.{err_from_is_err_and}
 use Rattle.space.specs.declared.region.DiscRegion.{DiscRegion}
 use Rattle.space.specs.MaxRegionSize.{max_region_size}
 use Rattle.opened.specs.Answers.{max_region_size_answer}
-use Rattle.opened.specs.Laws.AnswerLaws.{not_asked}
+use Rattle.opened.proofs.Laws.AnswerLaws.{not_asked}
 use Rattle.disc.proofs.Asked.{free_asked}
 use Rattle.disc.proofs.regions.max_region_size.Goals as goal
 

@@ -1,7 +1,7 @@
 -- `disc::regions::open` meets its contract: what the disc tells of itself, behind opening's tests.
 use Rattle.std.specs.Prelude.{Ok, Err}
 use Rattle.std.proofs.Common.{ap, ◌∙◌}
-use Rattle.opened.specs.Laws.AnswerLaws.{asked, told_meant}
+use Rattle.opened.proofs.Laws.AnswerLaws.{asked, told_meant}
 use Rattle.disc.specs.Calls.{opened_of}
 use Rattle.disc.proofs.regions.open.Goals as goal
 

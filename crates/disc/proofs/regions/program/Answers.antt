@@ -1,6 +1,6 @@
 -- `disc::regions::program` meets its contract: what the image says, behind opening's tests.
 use Rattle.std.specs.Prelude.{Err}
-use Rattle.opened.specs.Laws.AnswerLaws.{asked}
+use Rattle.opened.proofs.Laws.AnswerLaws.{asked}
 use Rattle.disc.specs.Calls.{program_answer}
 use Rattle.disc.proofs.regions.program.Goals as goal
 

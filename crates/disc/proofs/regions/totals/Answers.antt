@@ -1,7 +1,7 @@
 -- `disc::regions::totals` meets its contract: what the disc answers, behind opening's tests.
 use Rattle.std.specs.Prelude.{Err}
-use Rattle.opened.specs.Laws.Meant.{end_meant, total_meant}
-use Rattle.opened.specs.Laws.AnswerLaws.{asked}
+use Rattle.opened.proofs.Laws.Meant.{end_meant, total_meant}
+use Rattle.opened.proofs.Laws.AnswerLaws.{asked}
 use Rattle.disc.specs.Calls.{totals_answer}
 use Rattle.disc.proofs.regions.totals.Goals as goal
 

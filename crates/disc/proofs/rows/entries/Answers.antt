@@ -2,7 +2,7 @@
 use Rattle.std.proofs.Common.{refl, ◌∙◌}
 use Rattle.std.proofs.lemmas.Result.{err_from_is_err_and}
 use Rattle.refusal.specs.declared.Refusal.{Refusal}
-use Rattle.opened.specs.Laws.AnswerLaws.{not_asked}
+use Rattle.opened.proofs.Laws.AnswerLaws.{not_asked}
 use Rattle.disc.specs.Files.{entries_answer, entries_list}
 use Rattle.disc.proofs.Asked.{rows_asked, listing_asked}
 use Rattle.disc.proofs.rows.entries.Goals as goal

@@ -6,7 +6,7 @@ use Rattle.std.proofs.Common.{◌∙◌}
 use Rattle.refusal.specs.declared.Refusal.{Refusal}
 use Rattle.opened.specs.Opening.{opening}
 use Rattle.opened.specs.Inner.Disc.{Opened, Means, OpensAs}
-use Rattle.opened.specs.Laws.Meant.{start_meant, room_meant, end_meant, entries_meant, total_meant}
+use Rattle.opened.proofs.Laws.Meant.{start_meant, room_meant, end_meant, entries_meant, total_meant}
 use Rattle.opened.specs.Answers.{behind, summary_of}
 use Rattle.opened.specs.Inner.Told.{told_of}
 

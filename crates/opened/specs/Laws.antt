@@ -1,3 +1,0 @@
--- What follows from the definitions.
-pub mod AnswerLaws
-pub mod Meant
