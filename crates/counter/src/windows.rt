@@ -66,7 +66,7 @@ pub extern "C" fn counter_read(
 ) -> u32
     ensures number { result ≡ 0 }
     ensures count { answer.new ≡ count_of window.old (length image.now) (length buf.old) }
-    ensures window_after_read { window.new ≡ window_after_read window.old
+    ensures moved_on { window.new ≡ window_after_read window.old
         (count_of window.old (length image.now) (length buf.old)) }
     ensures buffer { buf.new ≡ buffer_of window.old image.now buf.old }
 {

@@ -103,7 +103,7 @@ pub fn free_clusters(image: &[u8], words: &mut [u32], list: &mut [u32]) -> Resul
     disc.used_regions().list_free::<3, Clusters>(list)
 }
 
-/// What the Rust answers for a region; for a file's own place, the largest size in bytes that it can grow to.
+/// What unplug answers for a region; for a file's own place, the largest size in bytes that it can grow to.
 pub fn max_region_size(
     image: &[u8],
     words: &mut [u32],

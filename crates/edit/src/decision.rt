@@ -1,4 +1,4 @@
-// The part that every edit ends with: the new table and its place judged, and what is decided on carried out.
+// What an edit decides on, as a value, and that it is carried out or its refusal handed back.
 
 ghost use Rattle.std.specs.Prelude.{◌≡◌, length};
 ghost use Rattle.edit.specs.Inner.Decision.{CanCarry, number_of, carried_answer, carried_image};

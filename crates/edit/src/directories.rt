@@ -1,4 +1,4 @@
-// Make-directories (`make_directories_from`): the troubles along the path, then the table with the
+// Make-directories (unplug's `make_directories_from`): the troubles along the path, then the table with the
 // directories that are missing, and only then the image is written. All of them or none.
 
 ghost use Rattle.std.specs.Prelude.{◌≡◌, length};

@@ -1,4 +1,4 @@
-// What a rewrite, a move and a resize decide on, on an open disc.
+// A file of a disc, as the edits hold it.
 
 use space::DiscRegion;
 

@@ -128,7 +128,7 @@ relocated nodes k old new = record {
   lost = old;
 }
 
--- 20 before 21: the new place must be free. An empty file goes anywhere. `max_region_size` of an empty place there
+-- 20 before 21: the new place must be free, so long is what `max_region_size` says of 0 bytes there. An empty file goes anywhere
 abbrev pub relocate_verdict : List DiscRegion → DiscRegion → DiscRegion → Verdict
 relocate_verdict free old new =
     refuse (overlaps_itself old new) OverlappingMove

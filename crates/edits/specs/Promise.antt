@@ -1,5 +1,5 @@
--- The one promise of every edit: given what was lent, the answer and how everything is afterwards. Whatever a later edit is lent
--- joins here. Assumes nothing: these are definitions.
+-- The one promise of every edit: given what was lent, the answer and how everything is afterwards. What else an edit may
+-- be lent has its field here. Assumes nothing: these are definitions.
 use Rattle.refusal.specs.Refusal.{Verdict}
 use Rattle.std.specs.Prelude.{ℕ, ◌≡◌, List, length}
 use Rattle.space.specs.declared.totals.Totals.{Totals}

@@ -37,7 +37,7 @@ largest_of (o ∷ os) (s ∷ ss) = max (o + s) (largest_of os ss)
 abbrev pub file_size_of : DolHeader → ℕ
 file_size_of h = max (largest_of h.text_offsets h.text_sizes) (largest_of h.data_offsets h.data_sizes)
 
--- a header past the image's end, or a sum above 2^32 - 1, which is the largest sum above it
+-- a header past the image's end, or a sum above 2^32 - 1: there is one just where the largest is
 abbrev pub dol_verdict_of : List ℕ → ℕ → Verdict
 dol_verdict_of s at = refuse (nat_lt (length s) (at + 0xE4)) InvalidDol (refuse (nat_lt (2 ^ 32 - 1) (file_size_of (dol_header_of s at))) InvalidDol (Ok tt))
 

@@ -12,7 +12,7 @@ use space::DiscRegion;
 pub type Program = Result<Option<DiscRegion>, Refusal>;
 
 // A region without a byte.
-// Kept: no `Option`, which is no plainer: the definitions have such a region (`nowhere`), and it is passed
+// Kept: no `Option`, which is no plainer: the definitions have such a region (`no_region`), and it is passed
 // over among the used ones, as an empty file's is.
 const NOWHERE: DiscRegion = DiscRegion { offset: 0, size: 0 };
 

@@ -6,7 +6,7 @@ unfoldable pub digits : ℕ → ℕ → List ℕ
 digits zero n = []
 digits (suc f) n = if nat_lt n 10 then (0x30 + n) ∷ [] else digits f (n / 10) ++ ((0x30 + n % 10) ∷ [])
 
--- no number has more digits than it counts, 0 aside
+-- n has n digits at most, but for 0, which has one
 abbrev pub decimal : ℕ → List ℕ
 decimal n = digits (suc n) n
 

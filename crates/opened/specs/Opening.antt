@@ -54,7 +54,7 @@ used_of image = used_total (table_end image) (behind_table image)
 -- ---- the disc that an image means, where it opens: all that an edit is decided on
 
 pub record Disc : Type 0 where
-  -- the tree of the table; where the table stands, its size, and the stated maximum of that
+  -- the tree of the table; where the table starts, its size (`room`), and the stated maximum of that
   pub nodes : List Node
   pub start : ℕ
   pub room : ℕ

@@ -1,4 +1,4 @@
--- `max_region_size`: what the Rust answers for n bytes at o, by the free regions. For a file's own place, and for a place of
+-- `max_region_size`: what unplug answers for n bytes at o, by the free regions. For a file's own place, and for a place of
 -- no bytes, it is the largest size that it can grow to in free bytes (Laws/GrowthLaws).
 use Rattle.std.specs.Prelude.{ℕ, ◌+◌, ◌-◌, List, [], ◌∷◌, if◌then◌else◌, ◌==◌, nat_lt}
 use Rattle.space.specs.declared.region.DiscRegion.{DiscRegion}

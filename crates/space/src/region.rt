@@ -1,5 +1,4 @@
-// The used regions of a disc in lent words: one added, all of them one after the other, and the words zeroed
-// at the end of a call.
+// A range of bytes of a disc, and one more of them added to those that stand in lent words.
 ghost use Rattle.std.specs.Prelude.{◌≡◌, ◌+◌, ◌*◌, ◌≤◌, length, replicate};
 ghost use Rattle.space.specs.Inner.Words.{Added};
 

@@ -87,7 +87,7 @@ impl<'a> UsedRegions<'a> {
         self.free_regions().count()
     }
 
-    /// What the Rust answers for a region; for a file's own place, the largest size in bytes that it can grow
+    /// What unplug answers for a region; for a file's own place, the largest size in bytes that it can grow
     /// to.
     pub fn max_region_size(&self, offset: u32, size: u32) -> u32
         ensures { result ≡ max_region_size offset size (free_in self.now) }

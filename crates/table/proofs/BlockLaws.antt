@@ -1,4 +1,4 @@
--- IsFit texts unit by unit, and the marks that say where one starts. Assumes nothing.
+-- Fit texts unit by unit, and the marks that say where one starts. Assumes nothing.
 use Prim.Native.Nat.{ℕ, zero, suc, ◌+◌, ◌-◌, ◌<◌, ◌≤◌}
 use mathlib.Core.Path.{◌≡◌, refl, sym, ◌∙◌}
 use mathlib.Core.Logic.{⊎_elim}

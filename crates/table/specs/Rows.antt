@@ -12,7 +12,7 @@ abbrev pub row_with : ℕ → ℕ → Node → List ℕ
 row_with parent place (file nm offset size) = 0 ∷ parent ∷ offset ∷ size ∷ place ∷ length nm ∷ []
 row_with parent place (directory nm next) = 1 ∷ parent ∷ 0 ∷ next ∷ place ∷ length nm ∷ []
 
--- where it stands in an image that has the table at `base`; 0 for the root
+-- where the name of entry k stands in an image that has the table at `base`; 0 for the root, which has none
 abbrev pub image_place : ℕ → List ℕ → ℕ → ℕ
 image_place base tab zero = 0
 image_place base tab (suc k) = base + name_place tab (suc k)

@@ -1,4 +1,4 @@
-// The texts of a table: bytes up to a zero byte, or up to the table's end.
+// A text of a table compared with a name, and measured.
 ghost use Rattle.std.specs.Prelude.{◌≡◌, false, ◌+◌, ◌≤◌, ◌<◌, length};
 ghost use Rattle.endian.specs.Bytes.{same_bytes};
 ghost use Rattle.table.specs.Inner.Texts.{text_at};

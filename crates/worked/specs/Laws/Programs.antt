@@ -52,7 +52,7 @@ at o n = record { offset = o; size = n }
 unfoldable pub one : List ℕ
 one = behind 0x600 0x100 0x23
 
--- ---- whole images; every other place stands in program's vectors
+-- ---- whole images; every other place stands in ProgramVectors of executable
 
 pub record Opens : Type 0 where
   pub at-file : (opens one ≡ Ok tt) × (program_of one ≡ Ok (Some (at 0x600 0x123)))

@@ -1,4 +1,4 @@
--- `totals_after::account` meets its contract: a refusal is handed on, and what is decided on is entered.
+-- `edit::account::account` meets its contract: a refusal is handed on, and what is decided on is entered.
 use Rattle.std.proofs.Common.{refl}
 use Rattle.std.proofs.lemmas.Result.{err_from_is_err_and}
 use Rattle.opened.proofs.Discs.{open_backed, lent_is}

@@ -1,4 +1,4 @@
--- `totals_after::enter` meets its contract: the words hold the used regions of each image that means the disc, in order, as the largest free region asks.
+-- `edit::account::enter` meets its contract: the words hold the used regions of each image that means the disc, in order, as the largest free region asks.
 use native.Mathlib.Omega.{arith}
 use Rattle.opened.proofs.Discs.{open_backed, lent_is, sorted_backed}
 use Rattle.space.proofs.Behind.{behind-first}

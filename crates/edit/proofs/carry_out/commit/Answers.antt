@@ -1,4 +1,4 @@
--- `commit::written::commit` meets its contract: the table and the zeros behind it are put at once, then the size.
+-- `edit::carry_out::commit` meets its contract: the table and the zeros behind it are put at once, then the size.
 use Rattle.edit.proofs.Puts.{committed}
 use Rattle.edit.proofs.carry_out.commit.Goals as goal
 

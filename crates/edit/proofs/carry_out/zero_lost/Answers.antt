@@ -1,4 +1,4 @@
--- `commit::written::zero_lost` meets its contract: no byte put changes nothing, and otherwise it is the fill.
+-- `edit::carry_out::zero_lost` meets its contract: no byte put changes nothing, and otherwise it is the fill.
 use Rattle.edit.proofs.Puts.{filled_none}
 use Rattle.edit.proofs.carry_out.zero_lost.Goals as goal
 

@@ -1,4 +1,4 @@
--- `make_directories::check_path` meets its contract: the troubles along the path are what make-directories would meet.
+-- `edit::directories::check_path` meets its contract: the troubles along the path are what make-directories would meet.
 use Rattle.std.proofs.Common.{arith, ◌∙◌}
 use Rattle.edit.proofs.BuiltTable.{well-disc}
 use Rattle.edit.proofs.Plans.{path-short}

@@ -1,4 +1,4 @@
--- `fill::fill` meets its contract: 15 and 16, a clip that is too long, then the resize of the file that was found.
+-- `edit::filling::fill` meets its contract: 15 and 16, a clip that is too long, then the resize of the file that was found.
 use Rattle.std.specs.Prelude.{◌<◌, length}
 use Rattle.std.proofs.Common.{arith}
 use Rattle.std.proofs.lemmas.Result.{err_from_is_err_and}

@@ -1,4 +1,4 @@
--- `insert::insert` meets its contract: refused by the tests of the entry, or as what the table with the entry comes to.
+-- `edit::insertion::insert` meets its contract: refused by the tests of the entry, or as what the table with the entry comes to.
 use Rattle.std.proofs.Common.{length, arith, refl, ap, ◌∙◌}
 use Rattle.std.proofs.lemmas.Result.{err_from_is_err_and}
 use Rattle.edit.proofs.BuiltTable.{well-disc}

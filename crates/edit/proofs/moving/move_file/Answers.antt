@@ -1,4 +1,4 @@
--- `decide::moving::move_file` meets its contract: 15 and 16, then the move of the file that was found.
+-- `edit::moving::move_file` meets its contract: 15 and 16, then the move of the file that was found.
 use Rattle.std.proofs.lemmas.Result.{err_from_is_err_and}
 use Rattle.edit.proofs.Files.{file-found, file-refused, move-decided, move-refused}
 use Rattle.edit.proofs.moving.move_file.Goals as goal

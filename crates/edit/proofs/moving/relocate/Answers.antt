@@ -1,4 +1,4 @@
--- `decide::moving::relocate` meets its contract: behind the tests of the new place it is the change that moves the file.
+-- `edit::moving::relocate` meets its contract: behind the tests of the new place it is the change that moves the file.
 use Rattle.edit.proofs.Outcomes.{relocated-in-image}
 use Rattle.edit.proofs.moving.relocate.Goals as goal
 

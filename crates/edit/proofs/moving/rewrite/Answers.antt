@@ -1,4 +1,4 @@
--- `decide::moving::rewrite` meets its contract: the tests of the table as it is, and the table written anew.
+-- `edit::moving::rewrite` meets its contract: the tests of the table as it is, and the table written anew.
 use Rattle.std.proofs.lemmas.Result.{err_from_is_err_and}
 use Rattle.edit.proofs.TableSlice.{opens-valid}
 use Rattle.edit.proofs.Outcomes.{rewrite-decided, rewrite-refused}

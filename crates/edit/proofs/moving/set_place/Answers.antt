@@ -1,4 +1,4 @@
--- `decide::moving::set_place` meets its contract: the tree with another place passes the tests of the tree as it is, and its table is the one written anew with 8 bytes changed.
+-- `edit::moving::set_place` meets its contract: the tree with another place passes the tests of the tree as it is, and its table is the one written anew with 8 bytes changed.
 use Rattle.std.proofs.Common.{arith}
 use Rattle.std.proofs.lemmas.Result.{err_from_is_err_and}
 use Rattle.edit.proofs.TableSlice.{opens-valid}

@@ -1,4 +1,4 @@
--- `decide::resizing::resize_file` meets its contract: 15 and 16, then the resize of the file that was found.
+-- `edit::resizing::resize_file` meets its contract: 15 and 16, then the resize of the file that was found.
 use Rattle.std.proofs.lemmas.Result.{err_from_is_err_and}
 use Rattle.edit.proofs.Files.{file-found, file-refused, resize-decided, resize-refused}
 use Rattle.edit.proofs.resizing.resize_file.Goals as goal

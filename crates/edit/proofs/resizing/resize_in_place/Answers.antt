@@ -1,4 +1,4 @@
--- `decide::resizing::resize_in_place` meets its contract: the change that keeps the place, whose lost end lies in the old one.
+-- `edit::resizing::resize_in_place` meets its contract: the change that keeps the place, whose lost end lies in the old one.
 use Rattle.edit.proofs.Outcomes.{resized-in-image}
 use Rattle.edit.proofs.resizing.resize_in_place.Goals as goal
 

@@ -1,4 +1,4 @@
--- `make_walk::trouble` meets its contract: each step leaves what the whole has.
+-- `edit::trouble::trouble` meets its contract: each step leaves what the whole has.
 use Rattle.std.proofs.Common.{arith, sym, ◌∙◌}
 use Rattle.std.proofs.lemmas.Result.{err_from_is_err_and}
 use Rattle.edit.proofs.Counted.{components-few}

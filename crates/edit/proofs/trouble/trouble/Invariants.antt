@@ -1,4 +1,4 @@
--- `make_walk::trouble` meets its contract. The invariant of its loop: what is left of the walk is what the whole has.
+-- `edit::trouble::trouble` meets its contract. The invariant of its loop: what is left of the walk is what the whole has.
 use Rattle.std.proofs.Common.{length}
 use Rattle.tree.specs.Table.{nodes_of}
 use Rattle.tree.specs.Lookup.{components}

@@ -1,4 +1,4 @@
--- `space_check::check` meets its contract: the test of the sorted regions is the test of the regions as they came.
+-- `space::overlaps::check` meets its contract: the test of the sorted regions is the test of the regions as they came.
 use Rattle.std.proofs.Common.{rules, ◌∙◌, sym, arith}
 use Rattle.space.proofs.Checking.{checked}
 use Rattle.space.proofs.overlaps.check.Goals as goal

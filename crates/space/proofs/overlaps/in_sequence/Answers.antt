@@ -1,4 +1,4 @@
--- `space_check::in_sequence` meets its contract: the regions that are left decide, from the end of the one before them on.
+-- `space::overlaps::in_sequence` meets its contract: the regions that are left decide, from the end of the one before them on.
 use Rattle.std.proofs.Common.{sym, ◌∙◌, arith}
 use Rattle.space.specs.Inner.Words.{in_sequence}
 use Rattle.space.proofs.Sweep.{sweep-stop, sweep-go}

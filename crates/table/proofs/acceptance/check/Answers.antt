@@ -1,4 +1,4 @@
--- `fst_check::opening::check` meets its contract: each return by the tests that led there. Entries that pass stand in the table.
+-- `table::acceptance::check` meets its contract: each return by the tests that led there. Entries that pass stand in the table.
 use native.Mathlib.Omega.{arith}
 use mathlib.Core.Path.{◌≡◌, sym}
 use Prim.Native.Nat.{◌-◌}

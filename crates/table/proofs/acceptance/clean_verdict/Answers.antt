@@ -1,4 +1,4 @@
--- `fst_check::opening::clean_verdict` meets its contract: of plain and safe units only the empty text, `.` and `..` are no names.
+-- `table::acceptance::clean_verdict` meets its contract: of plain and safe units only the empty text, `.` and `..` are no names.
 use Rattle.std.proofs.Common.{sym, ◌∙◌}
 use Rattle.tree.specs.Table.{plain}
 use Rattle.table.proofs.Judging.{safe-none, safe-fit}

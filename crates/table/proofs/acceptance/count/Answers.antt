@@ -1,4 +1,4 @@
--- `fst_check::opening::count` meets its contract: the larger of 1 and the root's next.
+-- `table::acceptance::count` meets its contract: the larger of 1 and the root's next.
 use native.Mathlib.Omega.{arith}
 use Rattle.tree.specs.Table.{count}
 use Rattle.table.proofs.acceptance.count.Goals as goal

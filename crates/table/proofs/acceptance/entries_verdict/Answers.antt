@@ -1,4 +1,4 @@
--- `fst_check::opening::entries_verdict` meets its contract. The invariant of its loop: what is left has the answer of the whole.
+-- `table::acceptance::entries_verdict` meets its contract. The invariant of its loop: what is left has the answer of the whole.
 use mathlib.Core.Path.{refl, sym, ◌∙◌}
 use Rattle.std.proofs.lemmas.Result.{err_from_is_err_and}
 use Rattle.tree.proofs.Laws.Steps.{entries-stop, entries-go, entries-end}

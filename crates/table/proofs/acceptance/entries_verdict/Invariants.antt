@@ -1,4 +1,4 @@
--- `fst_check::opening::entries_verdict` meets its contract. The invariant of its loop: what is left has the answer of the whole.
+-- `table::acceptance::entries_verdict` meets its contract. The invariant of its loop: what is left has the answer of the whole.
 use Prim.Native.Nat.{◌-◌}
 use mathlib.Core.Path.{◌≡◌}
 use Rattle.tree.specs.Table.{entries_verdict}

@@ -1,4 +1,4 @@
--- `fst_check::opening::entry_verdict` meets its contract: each return by the tests that led there.
+-- `table::acceptance::entry_verdict` meets its contract: each return by the tests that led there.
 use borrow.Author.Tests.{lt-ltb, le-ltb}
 use Rattle.tree.specs.Table.{entry_verdict}
 use borrow.Author.Rules.{rules}

@@ -1,4 +1,4 @@
--- `fst_check::opening::shut` meets its contract. The invariant of its loop: those that are left shut to the same as all.
+-- `table::acceptance::shut` meets its contract. The invariant of its loop: those that are left shut to the same as all.
 use native.Mathlib.Omega.{arith}
 use mathlib.Core.Path.{sym, ◌∙◌}
 use borrow.Author.Tests.{eqb-true}

@@ -1,4 +1,4 @@
--- `fst_path::components::component_end` meets its contract: the first unit that parts two components ends this one.
+-- `table::components::component_end` meets its contract: the first unit that parts two components ends this one.
 use Rattle.std.proofs.Common.{rules, ap, ◌∙◌, refl, arith}
 use Rattle.tree.specs.Units.{units}
 use Rattle.table.specs.Inner.Read.{unit_of}

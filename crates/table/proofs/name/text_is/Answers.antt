@@ -1,4 +1,4 @@
--- `fst::text::text_is` meets its contract: a text of n bytes has its end n bytes on, so that where it is, the n bytes decide.
+-- `table::name::text_is` meets its contract: a text of n bytes has its end n bytes on, so that where it is, the n bytes decide.
 use native.Mathlib.Omega.{arith}
 use mathlib.Core.Path.{sym, ◌∙◌}
 use Rattle.table.proofs.Comparing.{text-short, text-longer, text-exact}

@@ -1,4 +1,4 @@
--- `fst::text::text_length` meets its contract. The invariant of its loop: the bytes passed and the rest make the whole, so that the loop is at
+-- `table::name::text_length` meets its contract. The invariant of its loop: the bytes passed and the rest make the whole, so that the loop is at
 -- the zero byte, or before it.
 use Prim.Native.Nat.{◌+◌, ◌-◌, ◌≤◌}
 use mathlib.Core.Path.{◌≡◌}

@@ -1,4 +1,4 @@
--- `fst_text::names::is_plain` meets its contract: each unit is.
+-- `table::names::is_plain` meets its contract: each unit is.
 use Rattle.std.proofs.Common.{rules, ◌∙◌}
 use Rattle.std.proofs.lemmas.Iterator.Consumers.{YieldsList-from_first}
 use Rattle.std.proofs.lemmas.Iterator.Search.{all_from_yields_List}

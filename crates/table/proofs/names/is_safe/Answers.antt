@@ -1,4 +1,4 @@
--- `fst_text::names::is_safe` meets its contract: not empty, no dots, and each unit is.
+-- `table::names::is_safe` meets its contract: not empty, no dots, and each unit is.
 use Rattle.std.proofs.Common.{rules, ◌∙◌, sym}
 use Rattle.std.proofs.lemmas.Iterator.Consumers.{YieldsList-from_first}
 use Rattle.std.proofs.lemmas.Iterator.Search.{all_from_yields_List}

@@ -1,4 +1,4 @@
--- `fst_path::find` meets its contract: an entry that a lookup gives is in the table.
+-- `table::path::find` meets its contract: an entry that a lookup gives is in the table.
 use native.Mathlib.Omega.{arith}
 use mathlib.Core.Path.{◌∙◌}
 use borrow.Author.Tests.{lt-ltb}

@@ -1,4 +1,4 @@
--- `fst_path::lookup` meets its contract: the count is the number of entries.
+-- `table::path::lookup` meets its contract: the count is the number of entries.
 use native.Mathlib.Omega.{arith}
 use borrow.Author.Tests.{lt-ltb, le-ltb}
 use Rattle.tree.specs.Table.{count}

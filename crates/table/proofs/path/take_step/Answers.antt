@@ -1,4 +1,4 @@
--- `fst_path::take_step` meets its contract: each return by the tests that led there; there is room in the trail, since the step is from a directory.
+-- `table::path::take_step` meets its contract: each return by the tests that led there; there is room in the trail, since the step is from a directory.
 use native.Mathlib.Omega.{arith}
 use mathlib.Core.Path.{sym, ◌∙◌}
 use Rattle.std.proofs.lemmas.Result.{err_from_is_err_and}

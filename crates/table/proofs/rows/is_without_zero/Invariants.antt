@@ -1,4 +1,4 @@
--- `fst_list::is_without_zero` meets its contract. The invariant of its loop: while the least byte is not zero, the text goes on where the loop is.
+-- `table::rows::is_without_zero` meets its contract. The invariant of its loop: while the least byte is not zero, the text goes on where the loop is.
 use Prim.Native.Nat.{◌+◌, ◌<◌}
 use mathlib.Core.Path.{◌≡◌}
 use lib.ListN.{length}

@@ -1,4 +1,4 @@
--- `fst_list::length_before` meets its contract: behind what is passed the first zero byte is before the text behind, or it is that text's.
+-- `table::rows::length_before` meets its contract: behind what is passed the first zero byte is before the text behind, or it is that text's.
 use native.Mathlib.Omega.{arith}
 use Prim.Native.Nat.{◌+◌, ◌-◌, ◌<◌}
 use mathlib.Core.Path.{◌≡◌, ◌∙◌}

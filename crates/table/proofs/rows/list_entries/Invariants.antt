@@ -1,4 +1,4 @@
--- `fst_list::list_entries` meets its contract. The invariant of its loop: the rows of the entries below k stand in the list, and the ends that are kept are of this table.
+-- `table::rows::list_entries` meets its contract. The invariant of its loop: the rows of the entries below k stand in the list, and the ends that are kept are of this table.
 use mathlib.Core.Path.{◌≡◌}
 use Rattle.table.proofs.RowLaws.{Listing}
 use Rattle.table.proofs.rows.list_entries.Given as goal

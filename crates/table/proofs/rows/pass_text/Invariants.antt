@@ -1,4 +1,4 @@
--- `fst_list::pass_text` meets its contract. The invariant of its loop: the text goes on where the loop is.
+-- `table::rows::pass_text` meets its contract. The invariant of its loop: the text goes on where the loop is.
 use Prim.Native.Nat.{◌+◌, ◌-◌, ◌≤◌}
 use mathlib.Core.Path.{◌≡◌}
 use lib.ListN.{length}

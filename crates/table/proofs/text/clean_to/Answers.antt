@@ -1,4 +1,4 @@
--- `fst_text::text::clean_to` meets its contract. The invariant of its loop: no byte passed is a lead byte, and the rest has the answer of the whole.
+-- `table::text::clean_to` meets its contract. The invariant of its loop: no byte passed is a lead byte, and the rest has the answer of the whole.
 use native.Mathlib.Omega.{arith}
 use mathlib.Core.Path.{refl, sym, ◌∙◌}
 use Rattle.table.proofs.Texts.{clean-next}

@@ -1,4 +1,4 @@
--- `fst_text::text::is_clean_from` meets its contract: each unit is.
+-- `table::text::is_clean_from` meets its contract: each unit is.
 use Rattle.std.proofs.Common.{rules, sym, ap, ◌∙◌}
 use Rattle.std.proofs.lemmas.Iterator.Consumers.{YieldsList-from_first}
 use Rattle.std.proofs.lemmas.Iterator.Search.{all_from_yields_List}

@@ -1,4 +1,4 @@
--- `fst_text::text::is_dots` meets its contract: three bytes of the text tell.
+-- `table::text::is_dots` meets its contract: three bytes of the text tell.
 use Rattle.std.proofs.Common.{ap, ◌∙◌, ◌≡◌, ◌+◌, min, length, arith}
 use Rattle.tree.specs.Table.{dots}
 use Rattle.table.proofs.Texts.{dots-three}

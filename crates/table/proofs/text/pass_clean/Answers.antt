@@ -1,4 +1,4 @@
--- `fst_text::text::pass_clean` meets its contract: the chart tells which byte is clean, and each clean one is passed.
+-- `table::text::pass_clean` meets its contract: the chart tells which byte is clean, and each clean one is passed.
 use Prim.Native.Nat.{◌+◌}
 use mathlib.Core.Path.{refl}
 use native.Mathlib.Omega.{arith}

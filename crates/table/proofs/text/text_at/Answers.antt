@@ -1,4 +1,4 @@
--- `fst_text::text::text_at` meets its contract: the first zero byte ends the text.
+-- `table::text::text_at` meets its contract: the first zero byte ends the text.
 use Rattle.std.proofs.Common.{rules, ap, ◌∙◌, length, ◌-◌, take, drop, List, ℕ}
 use borrow.Author.Tests.{tests}
 use Rattle.std.proofs.lemmas.Iterator.{YieldsList-from_slice}

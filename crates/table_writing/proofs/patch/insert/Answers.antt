@@ -1,4 +1,4 @@
--- `fst_patch::insert` meets its contract: first the texts make room, then the records move, which read only what the texts left as it was.
+-- `table_writing::patch::insert` meets its contract: first the texts make room, then the records move, which read only what the texts left as it was.
 use Rattle.table_writing.specs.Inner.Kind.{kind_is_directory}
 use Rattle.table_writing.proofs.Inserted.{patchable-read, inserted-read}
 use borrow.Author.Rules.{rules}

@@ -1,4 +1,4 @@
--- `fst_patch::insert_text` meets its contract: the last texts move first, so none is lost.
+-- `table_writing::patch::insert_text` meets its contract: the last texts move first, so none is lost.
 use Rattle.table_writing.proofs.Inserted.{texts-moved}
 use Rattle.table_writing.proofs.patch.insert_text.Goals as goal
 

@@ -1,4 +1,4 @@
--- `fst_patch::patch_behind` meets its contract: once all records are moved, those from k on are the new ones, and those before it the moved ones.
+-- `table_writing::patch::patch_behind` meets its contract: once all records are moved, those from k on are the new ones, and those before it the moved ones.
 use Prim.Native.Nat.{◌≤◌, ◌+◌, ◌-◌}
 use Rattle.table_writing.proofs.Behind.{Raised}
 use Rattle.table_writing.proofs.patch.patch_behind.Given as goal

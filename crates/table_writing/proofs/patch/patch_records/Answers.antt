@@ -1,4 +1,4 @@
--- `fst_patch::patch_records` meets its contract: the records behind the new one, the new one and those up to its directory are the new ones, and
+-- `table_writing::patch::patch_records` meets its contract: the records behind the new one, the new one and those up to its directory are the new ones, and
 -- those in between do not change.
 use Rattle.table_writing.specs.Inner.Kind.{kind_is_directory}
 use Rattle.table_writing.proofs.Passes.{up-to-turn, all-patched}

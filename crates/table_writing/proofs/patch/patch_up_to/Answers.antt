@@ -1,4 +1,4 @@
--- `fst_patch::patch_up_to` meets its contract: the records from k on are the new ones, and those below are untouched.
+-- `table_writing::patch::patch_up_to` meets its contract: the records from k on are the new ones, and those below are untouched.
 use Prim.Native.Nat.{◌+◌}
 use Rattle.tree.specs.Inner.Patch.{record_before}
 use Rattle.table_writing.proofs.Patches.{before-twelve}

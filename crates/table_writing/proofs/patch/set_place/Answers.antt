@@ -1,4 +1,4 @@
--- `fst_patch::set_place` meets its contract: the second number stands right behind the first.
+-- `table_writing::patch::set_place` meets its contract: the second number stands right behind the first.
 use Prim.Native.Nat.{◌+◌, ◌*◌}
 use native.Mathlib.Omega.{arith}
 use Rattle.endian.specs.Bytes.{be32_bytes}

@@ -1,4 +1,4 @@
--- `fst_raise::patch_before` meets its contract: a record changes in its next or not at all, and what is written back is what stood there.
+-- `table_writing::raising::patch_before` meets its contract: a record changes in its next or not at all, and what is written back is what stood there.
 use mathlib.Core.Path.{sym, ◌∙◌}
 use native.Mathlib.Omega.{arith}
 use Rattle.table_writing.proofs.Patches.{directory-one, file-not-one, raised, file-stays, ended-stays}

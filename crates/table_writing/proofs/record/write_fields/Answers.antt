@@ -1,4 +1,4 @@
--- `fst_record::write_fields` meets its contract: its four stores, one right behind the other, put the entry's 12 bytes.
+-- `table_writing::record::write_fields` meets its contract: its four stores, one right behind the other, put the entry's 12 bytes.
 use Prim.Native.Nat.{◌*◌}
 use Rattle.table_writing.proofs.Puts.{put-fields}
 use Rattle.table_writing.proofs.record.write_fields.Goals as goal

@@ -1,4 +1,4 @@
--- `fst_record::write_name` meets its contract: the name and its zero byte stand one right behind the other.
+-- `table_writing::record::write_name` meets its contract: the name and its zero byte stand one right behind the other.
 use native.Mathlib.Omega.{arith}
 use Rattle.table_writing.proofs.Records.{name_size_lem, text-is}
 use Rattle.table_writing.proofs.record.write_name.Goals as goal

@@ -1,4 +1,4 @@
--- `fst_record::write_record` meets its contract: its four fields are the entry's bytes.
+-- `table_writing::record::write_record` meets its contract: its four fields are the entry's bytes.
 use native.Mathlib.Omega.{arith}
 use Rattle.table_writing.proofs.Records.{record-at}
 use Rattle.table_writing.proofs.record.write_record.Goals as goal

@@ -1,4 +1,4 @@
--- `fst_write::write_table` meets its contract: the root reaches to the end, so its directory is the entries from 1 on, and these with the root
+-- `table_writing::writer::write_table` meets its contract: the root reaches to the end, so its directory is the entries from 1 on, and these with the root
 -- are `encode` of the table's entries.
 use native.Mathlib.Omega.{arith}
 use mathlib.Core.Path.{ap, ◌∙◌}

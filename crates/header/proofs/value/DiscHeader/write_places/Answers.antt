@@ -1,4 +1,4 @@
--- `disc_header::DiscHeader::write_places` meets its contract: each call puts one field, in the order of the table.
+-- `header::value::DiscHeader::write_places` meets its contract: each call puts one field, in the order of the table.
 use Rattle.header.specs.Fields.{fields}
 use Rattle.header.specs.Header.{field_bytes, put_fields}
 use Rattle.header.specs.Inner.Writing.{put_some}

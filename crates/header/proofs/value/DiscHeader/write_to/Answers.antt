@@ -1,4 +1,4 @@
--- `disc_header::DiscHeader::write_to` meets its contract: the three parts are all fields.
+-- `header::value::DiscHeader::write_to` meets its contract: the three parts are all fields.
 use mathlib.Core.Path.{refl}
 use borrow.Author.Tests.{le-ltb}
 use lib.ListN.{length}
