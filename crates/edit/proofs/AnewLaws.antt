@@ -107,13 +107,13 @@ module _ (image : List ℕ) (words : ℕ) (r : Result Opened Refusal) (h : Opens
         stands = rw f at built
 
         passes : anew_verdict image words (length buffer) ≡ Ok tt
-        passes = let l : length (encode d.disc.nodes) ≤ length buffer = omega (arith, stands.1.0, stands.1.1.0) in verdict-is ∙ held d.disc.nodes d.words (length buffer) stands.0 l
+        passes = let l : length (encode d.disc.nodes) ≤ length buffer = omega (arith, stands.1, stands.2) in verdict-is ∙ held d.disc.nodes d.words (length buffer) stands.0 l
 
         pub built-small : size < 2 ^ 32
-        built-small = size-small d.disc.nodes d.words size stands.0 stands.1.0
+        built-small = size-small d.disc.nodes d.words size stands.0 stands.1
 
         pub built-answer : Ok size ≡ anew_answer image words (length buffer)
-        built-answer = ap Ok (stands.1.0 ∙ ap length (sym table-is)) ∙ passed-answer image words buffer passes
+        built-answer = ap Ok (stands.1 ∙ ap length (sym table-is)) ∙ passed-answer image words buffer passes
 
         pub built-buffer : after ≡ anew_buffer image words buffer
-        built-buffer = stands.1.1.1 ∙ ap (put buffer 0) (sym table-is) ∙ passed-buffer image words buffer passes
+        built-buffer = stands.3 ∙ ap (put buffer 0) (sym table-is) ∙ passed-buffer image words buffer passes

@@ -5,25 +5,31 @@ use Rattle.edit.proofs.anew.table_anew.Goals as goal
 
 pub returns-in_err-disc-clause-answer : goal.returns-in_err-disc-clause-answer
 returns-in_err-disc-clause-answer c =
-    let p = err_from_is_err_and c.from_residual-in_err-disc.result c.from_residual-in_err-disc.ensures.1 in
-    rw (p.1, p.2) (unopened-answer _ _ _ c.of_image.ensures c.args.table.now _ c.in_err-disc.was)
+    let p = err_from_is_err_and c.from_residual.result c.from_residual.ensures.1 in
+    rw (p.1, p.2, ← c.new-lent.ensures.memory) (unopened-answer _ _ _ c.of_image.ensures c.args.table.now _ c.in_err-disc.was)
 
 pub returns-in_err-disc-clause-table_after : goal.returns-in_err-disc-clause-table_after
-returns-in_err-disc-clause-table_after c = unopened-buffer _ _ _ c.of_image.ensures c.args.table.now _ c.in_err-disc.was
+returns-in_err-disc-clause-table_after c =
+    rw (← c.new-lent.ensures.memory) (unopened-buffer _ _ _ c.of_image.ensures c.args.table.now _ c.in_err-disc.was)
 
 pub returns-in_err-size-clause-answer : goal.returns-in_err-size-clause-answer
 returns-in_err-size-clause-answer c =
     let p = err_from_is_err_and c.from_residual-in_err-size.result c.from_residual-in_err-size.ensures.1 in
-    rw (p.1, p.2) (unbuilt-answer _ _ _ c.of_image.ensures c.args.table.now _ c.in_ok-disc.was _ _ c.start_table.ensures.built _ c.in_err-size.was)
+    rw (p.1, p.2, ← c.new-lent.ensures.memory)
+    (unbuilt-answer _ _ _ c.of_image.ensures c.args.table.now _ c.in_ok-disc.was _ _ c.start_table.ensures.built _ c.in_err-size.was)
 
 pub returns-in_err-size-clause-table_after : goal.returns-in_err-size-clause-table_after
-returns-in_err-size-clause-table_after c = unbuilt-buffer _ _ _ c.of_image.ensures c.args.table.now _ c.in_ok-disc.was _ _ c.start_table.ensures.built _ c.in_err-size.was c.in_err-size.ensures.kept
+returns-in_err-size-clause-table_after c =
+    rw (← c.new-lent.ensures.memory)
+    (unbuilt-buffer _ _ _ c.of_image.ensures c.args.table.now _ c.in_ok-disc.was _ _ c.start_table.ensures.built _ c.in_err-size.was c.in_err-size.ensures.kept)
 
-pub overflow_cast : goal.overflow_cast
-overflow_cast c = record { fits = built-small _ _ _ c.of_image.ensures c.args.table.now _ c.in_ok-disc.was _ _ c.start_table.ensures.built _ c.in_ok-size.was }
+pub overflow_cast-result : goal.overflow_cast-result
+overflow_cast-result c = record { fits = built-small _ _ _ c.of_image.ensures c.args.table.now _ c.in_ok-disc.was _ _ c.start_table.ensures.built _ c.in_ok-size.was }
 
 pub returns-clause-answer : goal.returns-clause-answer
-returns-clause-answer c = built-answer _ _ _ c.of_image.ensures c.args.table.now _ c.in_ok-disc.was _ _ c.start_table.ensures.built _ c.in_ok-size.was
+returns-clause-answer c =
+    rw (← c.new-lent.ensures.memory) (built-answer _ _ _ c.of_image.ensures c.args.table.now _ c.in_ok-disc.was _ _ c.start_table.ensures.built _ c.in_ok-size.was)
 
 pub returns-clause-table_after : goal.returns-clause-table_after
-returns-clause-table_after c = built-buffer _ _ _ c.of_image.ensures c.args.table.now _ c.in_ok-disc.was _ _ c.start_table.ensures.built _ c.in_ok-size.was
+returns-clause-table_after c =
+    rw (← c.new-lent.ensures.memory) (built-buffer _ _ _ c.of_image.ensures c.args.table.now _ c.in_ok-disc.was _ _ c.start_table.ensures.built _ c.in_ok-size.was)
