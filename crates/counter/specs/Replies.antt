@@ -69,7 +69,7 @@ one n = n ∷ []
 
 -- a unit's length, and 0 or what it is refused for in a name
 abbrev pub unit_words : FirstUnit → List ℕ
-unit_words u = u.size ∷ number_told u.verdict ∷ []
+unit_words u = u.len ∷ number_told u.verdict ∷ []
 
 -- a window's start, length and position
 abbrev pub window_in : List ℕ → Window

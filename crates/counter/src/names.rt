@@ -19,7 +19,7 @@ pub extern "C" fn counter_unit(text: &[u8], answer: &mut [u32; 2]) -> u32
     ensures { reply result answer.new ≡ accepts (unit_words (first_unit text.now)) }
 {
     let unit = disc::first_unit(text);
-    give(answer, Ok([unit.size, number(unit.verdict)]))
+    give(answer, Ok([unit.len, number(unit.verdict)]))
 }
 
 #[unsafe(no_mangle)]

@@ -21,6 +21,6 @@ pub struct DolFile {
 /// The first unit of a text: how many bytes it has, and what it is refused for in a name.
 #[derive(Clone, Copy, PartialEq, Eq, Debug)]
 pub struct FirstUnit {
-    pub size: u32,
+    pub len: u32,
     pub verdict: Verdict,
 }

@@ -2,20 +2,20 @@
 ghost use Rattle.std.specs.Prelude.{◌≡◌};
 ghost use Rattle.table.specs.Inner.Read.{unit_of};
 ghost use Rattle.disc.specs.Texts as texts_of;
-ghost use Rattle.disc.specs.Texts.{judged, unit_told, name_judged};
+ghost use Rattle.disc.specs.Texts.{unit_judged, unit_told, name_judged};
 
 use crate::answers::FirstUnit;
 use refusal::{Refusal, Verdict};
 use table::{Components, Unit, Units};
 
-// 12, then 13.
-fn judge(is_plain: bool, is_safe: bool) -> Verdict
-    ensures { result ≡ judged is_plain is_safe }
+// What a unit is refused for in a name: 12, then 13.
+fn judge_unit(unit: Unit) -> Verdict
+    ensures { result ≡ unit_judged (unit_of unit) }
 {
-    if !is_plain {
+    if !unit.is_plain() {
         return Err(Refusal::InvalidNameByte);
     }
-    if !is_safe {
+    if !unit.is_safe() {
         return Err(Refusal::UnsafeName);
     }
     Ok(())
@@ -24,13 +24,13 @@ fn judge(is_plain: bool, is_safe: bool) -> Verdict
 fn tell(unit: Unit) -> FirstUnit
     ensures { result ≡ unit_told (unit_of unit) }
 {
-    let size = match unit {
+    let len = match unit {
         Unit::Single(_) => 1,
         Unit::Pair(_, _) => 2,
     };
     FirstUnit {
-        size,
-        verdict: judge(unit.is_plain(), unit.is_safe()),
+        len,
+        verdict: judge_unit(unit),
     }
 }
 
@@ -42,7 +42,7 @@ pub fn first_unit(text: &[u8]) -> FirstUnit
     match Units::new(text).next() {
         Some(unit) => tell(unit),
         None => FirstUnit {
-            size: 0,
+            len: 0,
             verdict: Ok(()),
         },
     }
@@ -65,5 +65,11 @@ pub fn component_length(path: &[u8]) -> usize
 pub fn judge_name(name: &[u8]) -> Verdict
     ensures { result ≡ name_judged name.now }
 {
-    judge(table::is_plain(name), table::is_safe(name))
+    if !table::is_plain(name) {
+        return Err(Refusal::InvalidNameByte);
+    }
+    if !table::is_safe(name) {
+        return Err(Refusal::UnsafeName);
+    }
+    Ok(())
 }

@@ -46,8 +46,8 @@ number-slots = (refl, refl, refl)
 
 -- "unit[2]: its length in bytes .., and 0, 12 or 13"
 unit-slots :
-    (accepts (unit_words (record { size = 1; verdict = Err InvalidNameByte })) ≡ reply 0 (1 ∷ 12 ∷ [])) ×
-    (accepts (unit_words (record { size = 2; verdict = Ok tt })) ≡ reply 0 (2 ∷ 0 ∷ []))
+    (accepts (unit_words (record { len = 1; verdict = Err InvalidNameByte })) ≡ reply 0 (1 ∷ 12 ∷ [])) ×
+    (accepts (unit_words (record { len = 2; verdict = Ok tt })) ≡ reply 0 (2 ∷ 0 ∷ []))
 unit-slots = (refl, refl)
 
 -- windows: "three slots of 64 bits, start, length and position"
