@@ -71,6 +71,7 @@ extern "C" {
 #define COUNTER_DOL_SLOTS 57
 #define COUNTER_WINDOW_SLOTS 3
 #define COUNTER_RECORD_SLOTS 3
+#define COUNTER_UNIT_SLOTS 2
 
 /* ---- limits: an image with more does not open, and no edit makes one */
 
@@ -160,6 +161,25 @@ uint32_t counter_list(const uint8_t *image, size_t image_len, uint32_t *words, s
  * is 9. A text that is too short even for that stays as it was, with length 0. answer[1]: the length. Always returns 0. */
 uint32_t counter_report(const uint8_t *image, size_t image_len, uint32_t *words, size_t words_len, uint8_t *text, size_t text_len,
     uint64_t answer[1]);
+
+/* The table that counter_rewrite would write, with no name shared, into the front of table; the image is only read. 9 if the names that are
+ * written pass COUNTER_MOST_TEXT or table is too short, and nothing is written to it; bytes behind the table stay. Whether the disc has a
+ * place for it (26, 21) is not tested. COUNTER_MOST_TABLE are enough. length[1]: its length in bytes. */
+uint32_t counter_table_anew(const uint8_t *image, size_t image_len, uint32_t *words, size_t words_len, uint8_t *table, size_t table_len,
+    uint32_t length[1]);
+
+/* ---- names and paths, with no image */
+
+/* The first unit of a text. unit[2]: its length in bytes (0 for an empty text, 1, 2), and what it is refused for in a name: 0, 12 (a byte
+ * that no name has), 13 ('/', '\' or ':'). Always returns 0. */
+uint32_t counter_unit(const uint8_t *text, size_t text_len, uint32_t unit[COUNTER_UNIT_SLOTS]);
+
+/* The first component of a path: up to the first '/' or '\' that is a unit, or to the end. length[1]: how many bytes it has, without the
+ * separator. Always returns 0. */
+uint32_t counter_component(const uint8_t *path, size_t path_len, uint64_t length[1]);
+
+/* Whether opening refuses an entry for this name: 0, or 12, then 13. */
+uint32_t counter_name(const uint8_t *name, size_t name_len);
 
 /* ---- free space */
 

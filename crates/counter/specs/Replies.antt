@@ -7,6 +7,7 @@ use Rattle.refusal.specs.Refusal.{Verdict, number_of}
 use Rattle.opened.specs.declared.summary.Disc.{Disc}
 use Rattle.space.specs.declared.region.DiscRegion.{DiscRegion}
 use Rattle.disc.specs.declared.answers.DiscTotals.{DiscTotals}
+use Rattle.disc.specs.declared.answers.FirstUnit.{FirstUnit}
 use Rattle.tree.specs.declared.Entry.{Entry}
 use Rattle.tree.specs.declared.Entry.TheVariants.{File, Directory}
 use Rattle.tree.specs.declared.Found.{Found}
@@ -62,9 +63,13 @@ disc_totals_words t = t.disc_end ∷ t.used ∷ []
 abbrev pub region_words : DiscRegion → List ℕ
 region_words r = r.offset ∷ r.size ∷ []
 
--- how many regions, a size, the length of a text, an entry's number
+-- how many regions, a size, the length of a text or of a table, an entry's number
 abbrev pub one : ℕ → List ℕ
 one n = n ∷ []
+
+-- a unit's length, and 0 or what it is refused for in a name
+abbrev pub unit_words : FirstUnit → List ℕ
+unit_words u = u.len ∷ number_told u.verdict ∷ []
 
 -- a window's start, length and position
 abbrev pub window_in : List ℕ → Window

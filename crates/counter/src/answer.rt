@@ -48,12 +48,12 @@ impl Value for DiscRegion {
     ghost words = { region_words };
 }
 
-// A size, an entry's number, or how many regions.
+// A size, an entry's number, how many regions, or the length of a table.
 impl Value for u32 {
     ghost words = { one };
 }
 
-// The length of a text.
+// The length of a text, or of a part of a path.
 impl Value for u64 {
     ghost words = { one };
 }
@@ -69,5 +69,10 @@ impl Value for Totals {
 // An entry, which is a file or a directory.
 // Kept: the four words that counter.h lends; an enum has no such form in C (C).
 impl Value for [u32; 4] {
+    ghost words = { λ ws. ws };
+}
+
+// A unit: its length, and what it is refused for.
+impl Value for [u32; 2] {
     ghost words = { λ ws. ws };
 }

@@ -1,7 +1,7 @@
 // The edits. The totals record is lent: used bytes, the largest free region's size, accepted edits.
 ghost use Rattle.edits.specs.Edits as edits;
 ghost use Rattle.edits.specs.Promise.{Edited, lent};
-ghost use Rattle.edit.specs.Inner.Decides.{edit_of};
+ghost use Rattle.edit.specs.Asked.{edit_of};
 ghost use Rattle.counter.specs.Replies.{reply, one, done, numbered};
 
 use crate::answer::give;

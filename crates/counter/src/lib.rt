@@ -6,6 +6,7 @@
 mod answer;
 mod editing;
 mod headers;
+mod names;
 mod reading;
 mod regions;
 mod text;
@@ -16,9 +17,10 @@ pub use editing::{
     counter_move_file, counter_resize_file, counter_rewrite,
 };
 pub use headers::{counter_header, counter_open_dol};
+pub use names::{counter_component, counter_name, counter_unit};
 pub use reading::{
     counter_entries, counter_entry, counter_lookup, counter_make_record, counter_open,
-    counter_program, counter_totals,
+    counter_program, counter_table_anew, counter_totals,
 };
 pub use regions::{
     counter_allocate, counter_free_clusters, counter_free_regions, counter_max_file_size,

@@ -2,9 +2,10 @@
 ghost use Rattle.std.specs.Prelude.{◌≡◌, length};
 ghost use Rattle.disc.specs.Calls.{opened_of, totals_answer, record_answer, program_answer};
 ghost use Rattle.disc.specs.Files.{entry_answer, lookup_answer, entries_answer, entries_list};
+ghost use Rattle.edit.specs.TableAnew.{anew_answer, anew_buffer};
 ghost use Rattle.opened.specs.Opening.{zeros};
 ghost use Rattle.counter.specs.Replies.{reply, replied, disc_words, disc_totals_words, totals_words};
-ghost use Rattle.counter.specs.Replies.{region_words, found_reply, program_reply};
+ghost use Rattle.counter.specs.Replies.{region_words, found_reply, program_reply, one};
 
 use crate::answer::give;
 use disc::DiscTotals;
@@ -122,4 +123,21 @@ pub extern "C" fn counter_entries(
     ensures words_zero { words.new ≡ zeros words.old }
 {
     give(answer, disc::entries(image, words, list))
+}
+
+// The table that a rewrite would write; the image stays.
+#[unsafe(no_mangle)]
+pub extern "C" fn counter_table_anew(
+    image: &[u8],
+    words: &mut [u32],
+    table: &mut [u8],
+    answer: &mut u32,
+) -> u32
+    ensures answer { reply result (one answer.new)
+        ≡ replied one (one answer.old)
+        (anew_answer image.now (length words.old) (length table.old)) }
+    ensures table_after { table.new ≡ anew_buffer image.now (length words.old) table.old }
+    ensures words_zero { words.new ≡ zeros words.old }
+{
+    give(answer, edit::table_anew(image, words, table))
 }

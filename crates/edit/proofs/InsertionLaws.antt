@@ -31,7 +31,7 @@ use Rattle.edit.proofs.TableChanges.{unbuilt-decides}
 use Rattle.table_writing.specs.Inner.Kind.{kind_is_directory}
 use Rattle.table_writing.specs.declared.kind.Kind.{Kind}
 use Rattle.table_writing.specs.declared.kind.Kind.TheVariants as kind
-use Rattle.edit.specs.Inner.Insertion.{insertion}
+use Rattle.edit.specs.Asked.{insertion}
 
 not-off : (t : Bool) → not t ≡ false → t ≡ true
 not-off true e = refl

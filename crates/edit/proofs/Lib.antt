@@ -1,4 +1,5 @@
 -- What the proofs of the functions cite.
+pub mod AnewLaws
 pub mod BuiltTable
 pub mod Carried
 pub mod Clips

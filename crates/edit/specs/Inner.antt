@@ -4,6 +4,5 @@ pub mod Decides
 pub mod Decision
 pub mod Files
 pub mod Filling
-pub mod Insertion
 pub mod Making
 pub mod Walk

@@ -1,2 +1,4 @@
+pub mod Asked
+pub mod TableAnew
 pub mod Inner
 pub mod Laws

@@ -63,7 +63,7 @@ impl Decision {
     /// Writes what is decided on, the table from the working bytes, and gives the entry's number, 0 where
     /// there is none. The clip comes before the table, so a table with the new place or size has the whole
     /// clip.
-    pub fn carry_out(self, image: &mut [u8], bytes: &[u8], clip: &[u8]) -> u32
+    fn carry_out(self, image: &mut [u8], bytes: &[u8], clip: &[u8]) -> u32
         requires { CanCarry image.old (length bytes.now) clip.now (Ok self) }
         ensures number { result ≡ number_of self }
         ensures image_after { image.new ≡ carried_image (Ok self) bytes.now clip.now image.old }

@@ -3,7 +3,7 @@
 ghost use Rattle.std.specs.Prelude.{length};
 ghost use Rattle.edits.specs.Edits.{plan_of};
 ghost use Rattle.edit.specs.Inner.Decision.{Decides};
-ghost use Rattle.edit.specs.Inner.Insertion.{insertion};
+ghost use Rattle.edit.specs.Asked.{insertion};
 
 use crate::decision::Decision;
 use crate::new_entry::NewEntry;

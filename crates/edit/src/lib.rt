@@ -3,6 +3,7 @@
 #![tactic(auto)]
 
 mod account;
+mod anew;
 mod calls;
 mod carry_out;
 mod decision;
@@ -22,6 +23,7 @@ mod table_only;
 mod trouble;
 mod walk;
 
+pub use anew::table_anew;
 pub use calls::{
     fill_file, insert_directory, insert_file, make_directories, move_file, resize_file, rewrite,
 };

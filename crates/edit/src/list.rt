@@ -2,7 +2,7 @@
 ghost use Rattle.std.specs.Prelude.{length, map};
 ghost use Rattle.edits.specs.Promise.{lent};
 ghost use Rattle.ledger.specs.Lists.{AppliesInTurn, LedgerHoldsAfter, TellsAfter};
-ghost use Rattle.edit.specs.Inner.Decides.{edit_of};
+ghost use Rattle.edit.specs.Asked.{edit_of};
 
 use crate::pipeline;
 use crate::pipeline::Edit;

@@ -6,7 +6,8 @@ ghost use Rattle.edits.specs.Edits.{planned, plan_of, numbered_as};
 ghost use Rattle.edits.specs.Promise.{lent, only_verdict, Edited};
 ghost use Rattle.ledger.specs.Runs.{Passable};
 ghost use Rattle.edit.specs.Inner.Accounting.{accounted, IsAccountedFor};
-ghost use Rattle.edit.specs.Inner.Decides.{edit_of, clip_of, IsEditDecided};
+ghost use Rattle.edit.specs.Asked.{edit_of, clip_of};
+ghost use Rattle.edit.specs.Inner.Decides.{IsEditDecided};
 
 use crate::decision::Decision;
 use crate::new_entry::NewEntry;

@@ -1,6 +1,6 @@
 // Edits that write the table alone: the tree of the disc, from which the new table grows, and the new table
 // judged and decided on.
-ghost use Rattle.std.specs.Prelude.{◌≡◌, length, IfOk};
+ghost use Rattle.std.specs.Prelude.{◌≡◌, length, IfOk, OnErr};
 ghost use Rattle.table_writing.specs.Inner.Growth.{tree_in, Stands, IsBuilt};
 ghost use Rattle.table_writing.specs.Inner.Growing.{tree_of};
 ghost use Rattle.edits.specs.Change.{change};
@@ -21,11 +21,12 @@ pub fn lent_words(disc: &OpenDisc<'_>) -> usize
 }
 
 /// Writes the tree of the disc anew into the bytes, and gives the size of its table; 9 if its texts pass the
-/// limit or the bytes are too few.
+/// limit or the bytes are too few, which then stay as they were.
 pub fn start_table(disc: &OpenDisc<'_>, bytes: &mut [u8]) -> Result<usize, Refusal>
     ensures built { IsBuilt disc.now.disc.nodes disc.now.words bytes.old bytes.new result }
     ensures table { IfOk result (λ size. Stands bytes.new size disc.now.words) }
     ensures tree { IfOk result (λ size. tree_in bytes.new size ≡ disc.now.disc.nodes) }
+    ensures kept { OnErr result (bytes.new ≡ bytes.old) }
 {
     let table = disc.table();
     let size = table_writing::measure(table)?;

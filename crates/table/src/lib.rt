@@ -24,3 +24,4 @@ pub use name::text_length;
 pub use names::{is_plain, is_safe};
 pub use path::{find, goes_back, stays};
 pub use rows::list_entries;
+pub use units::{Unit, Units};

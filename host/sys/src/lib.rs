@@ -182,6 +182,13 @@ pub fn report(image: &[u8], memory: &mut Memory, text: &mut [u8]) -> Answer<u64>
     Ok(answer[0])
 }
 
+/// The table that `rewrite` would write, in front of `table`; the answer is its length.
+pub fn table_anew(image: &[u8], words: &mut [u32], table: &mut [u8]) -> Answer<usize> {
+    let mut length = [0; 1];
+    told(unsafe { call!(counter_table_anew(in image, mut words, mut table, = &mut length)) })?;
+    Ok(length[0] as usize)
+}
+
 /// Offset and size of each free region in `list`; the answer is how many there are.
 pub fn free_regions(image: &[u8], memory: &mut Memory, list: &mut [u32]) -> Answer<u32> {
     let mut answer = [0; 1];
@@ -239,6 +246,30 @@ pub fn open_dol(image: &[u8], memory: &mut Memory) -> Answer<([u32; DOL_WORDS], 
         call!(counter_open_dol(in image, mut memory.words, = &mut header, = &mut answer))
     })?;
     Ok((header, window(answer)))
+}
+
+// Names and paths -------------------------------------------------------------------------
+
+/// How many bytes the first unit of a text has (0 for an empty text), and what it is refused for in a
+/// name: 0, 12 or 13.
+pub fn unit(text: &[u8]) -> (usize, u32) {
+    let mut unit = [0; 2];
+    // It is never refused.
+    unsafe { call!(counter_unit(in text, = &mut unit)) };
+    (unit[0] as usize, unit[1])
+}
+
+/// How many bytes the first component of a path has.
+pub fn component(path: &[u8]) -> usize {
+    let mut length = [0; 1];
+    // It is never refused.
+    unsafe { call!(counter_component(in path, = &mut length)) };
+    length[0] as usize
+}
+
+/// What opening refuses an entry's name for: 0, 12 or 13.
+pub fn name(name: &[u8]) -> u32 {
+    unsafe { call!(counter_name(in name)) }
 }
 
 // Windows ---------------------------------------------------------------------------------

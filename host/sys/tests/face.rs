@@ -6,13 +6,16 @@ use counter_sys::{Entry, Memory, Opened, Record, Region, Window};
 /// The small master.
 fn small_master() -> Vec<u8> {
     let mut image = vec![0; 0x2000];
-    let mut put = |at: usize, bytes: &[u8]| image[at..at + bytes.len()].copy_from_slice(bytes);
-    put(0x1c, &[0xc2, 0x33, 0x9f, 0x3d]);
-    put(0x424, &[0, 0, 4, 0x40, 0, 0, 0, 0x1a]);
-    put(0x434, &[0, 0, 0x20, 0]);
-    put(0x440, &[1, 0, 0, 0, 0, 0, 0, 0, 0, 0, 0, 2]);
-    put(0x44c, &[0, 0, 0, 0, 0, 0, 5, 0, 0, 0, 1, 0, b'a', 0]);
+    put(&mut image, 0x1c, &[0xc2, 0x33, 0x9f, 0x3d]);
+    put(&mut image, 0x424, &[0, 0, 4, 0x40, 0, 0, 0, 0x1a]);
+    put(&mut image, 0x434, &[0, 0, 0x20, 0]);
+    put(&mut image, 0x440, &[1, 0, 0, 0, 0, 0, 0, 0, 0, 0, 0, 2]);
+    put(&mut image, 0x44c, &[0, 0, 0, 0, 0, 0, 5, 0, 0, 0, 1, 0, b'a', 0]);
     image
+}
+
+fn put(image: &mut [u8], at: usize, bytes: &[u8]) {
+    image[at..at + bytes.len()].copy_from_slice(bytes);
 }
 
 /// Its listing.
@@ -76,6 +79,11 @@ fn the_calls_on_slices() {
     assert_eq!(text, [5; LISTING.len() - 1]);
     assert_eq!(counter_sys::report(&image, &mut memory, &mut text), Ok(10));
     assert_eq!((&text[..10], text[10]), (&b"refused 9\n"[..], 5));
+    let mut table = [5; 27];
+    assert_eq!(counter_sys::table_anew(&image, memory.words, &mut table[..25]), Err(9));
+    assert_eq!(table, [5; 27]);
+    assert_eq!(counter_sys::table_anew(&image, memory.words, &mut table), Ok(26));
+    assert_eq!((&table[..26], table[26]), (&image[0x440..0x45a], 5));
     assert_eq!(counter_sys::max_region_size(&image, &mut memory, 0x600, 1), Ok(0x1a00));
     assert_eq!(counter_sys::max_file_size(&image, &mut memory, 1), Ok(0x1b00));
     let place = Region { offset: 0x600, size: 0x1a00 };
@@ -132,6 +140,9 @@ fn no_name_and_no_argument_is_taken_for_another() {
     let mut text = [0; LISTING.len()];
     assert_eq!(counter_sys::list(&image[..0x1fff], m, &mut text), Err(4));
     assert_eq!(counter_sys::report(&image[..0x1fff], m, &mut text), Ok(10));
+    // A text's first unit and a path's first component.
+    assert_eq!(counter_sys::unit(b"ab/c"), (1, 0));
+    assert_eq!(counter_sys::component(b"ab/c"), 2);
     // Offset and size, size and alignment.
     assert_eq!(counter_sys::max_region_size(&image, m, 0x600, 2), Ok(0x1a00));
     assert_eq!(counter_sys::max_region_size(&image, m, 2, 0x600), Ok(0x600));
@@ -175,6 +186,77 @@ fn no_name_and_no_argument_is_taken_for_another() {
     assert_eq!(edited(&mut |image, r| counter_sys::rewrite(image, m, r)), Ok(image.clone()));
     let filled = edited(&mut |image, r| counter_sys::fill_file(image, m, r, 1, &[7; 0x100]));
     assert_eq!(filled.unwrap()[0x500..0x600], [7; 0x100]);
+}
+
+/// What a rewrite would write, wherever it finds no place: a shared name is written twice.
+#[test]
+fn the_table_of_a_rewrite() {
+    let mut image = small_master();
+    put(&mut image, 0x42b, &[0x26]);
+    put(&mut image, 0x44b, &[3]);
+    put(&mut image, 0x458, &[0, 0, 0, 0, 0, 0, 4, 0x67, 0, 0, 0, 1, b'a', 0]);
+    let (mut words, mut bytes, mut table) = ([9; 20], [9; 40], [5; 41]);
+    let got = counter_sys::table_anew(&image, &mut words, &mut table[..39]);
+    assert_eq!((got, table), (Err(9), [5; 41]));
+    assert_eq!(counter_sys::table_anew(&image, &mut words[1..], &mut table), Err(9));
+    assert_eq!(counter_sys::table_anew(&image, &mut words, &mut table), Ok(40));
+    assert_eq!((&table[36..], words), (&b"a\0a\0\x05"[..], [0; 20]));
+    // The last byte of that table would lie in the second file.
+    let mut memory = Memory { words: &mut words, bytes: &mut bytes };
+    let mut record = counter_sys::make_record(&image, &mut memory).unwrap();
+    assert_eq!(counter_sys::rewrite(&mut image, &mut memory, &mut record), Err(21));
+    put(&mut image, 0x45f, &[0x68]);
+    counter_sys::table_anew(&image, memory.words, &mut table).unwrap();
+    assert_eq!(counter_sys::rewrite(&mut image, &mut memory, &mut record), Ok(()));
+    assert_eq!(image[0x440..0x468], table[..40]);
+}
+
+/// By units: a pair's trail byte is no separator, and a lead byte without one is no pair.
+#[test]
+fn names_and_paths() {
+    let units: [(&[u8], (usize, u32)); 12] = [
+        (b"", (0, 0)),
+        (b"a:", (1, 0)),
+        (b"/", (1, 13)),
+        (b"\\a", (1, 13)),
+        (b":", (1, 13)),
+        (b"\0", (1, 12)),
+        (b"\x7f", (1, 12)),
+        (b"\xa0", (1, 12)),
+        (b"\xa1", (1, 0)),
+        (b"\x81\\", (2, 0)),
+        (b"\x81/", (1, 12)),
+        (b"\x81", (1, 12)),
+    ];
+    for (text, wanted) in units {
+        assert_eq!(counter_sys::unit(text), wanted, "{text:x?}");
+    }
+    let paths: [(&[u8], usize); 7] = [
+        (b"", 0),
+        (b"/a", 0),
+        (b"a/b/c", 1),
+        (b"ab\\c", 2),
+        (b"abc", 3),
+        (b"\x81\\/", 2),
+        (b"\x81/a", 1),
+    ];
+    for (path, wanted) in paths {
+        assert_eq!(counter_sys::component(path), wanted, "{path:x?}");
+    }
+    let names: [(&[u8], u32); 9] = [
+        (b"", 13),
+        (b".", 13),
+        (b"..", 13),
+        (b"...", 0),
+        (b"a b", 0),
+        (b"a/b", 13),
+        (b"\x81\\", 0),
+        (b"\x81:", 12),
+        (b"a\0", 12),
+    ];
+    for (name, wanted) in names {
+        assert_eq!(counter_sys::name(name), wanted, "{name:x?}");
+    }
 }
 
 /// The file is the clip afterwards, and what it loses is zero. A clip of its own size wants no bytes.
@@ -356,6 +438,7 @@ fn an_empty_image() {
     assert_eq!(counter_sys::allocate(&image, m, 1, 0), Err(1));
     assert_eq!(counter_sys::open_file(&image, m, 9), Err(1));
     assert_eq!(counter_sys::open_dol(&image, m), Err(1));
+    assert_eq!(counter_sys::table_anew(&image, m.words, &mut []), Err(1));
     assert_eq!(counter_sys::make_record(&image, m), Err(1));
     assert_eq!(counter_sys::insert_file(&mut image, m, r, 9, b""), Err(1));
     assert_eq!(counter_sys::insert_directory(&mut image, m, r, 9, b""), Err(1));

@@ -1,14 +1,14 @@
 -- One reply of each kind, by computing: every slot holds a number of its own, in the order that host/include/counter.h gives them, so that the
 -- order is said twice. Assumes nothing.
 use Rattle.std.specs.Prelude.{Some, None, Ok, Err, ℕ, zero, suc, ◌≡◌, refl, List, [], ◌∷◌}
-use Rattle.refusal.specs.declared.Refusal.TheVariants.{LimitOrMemory, NoSuchEntry, ExpectedFile, NotFound, NotEnoughSpace, InvalidSeek, InvalidDol, TotalsOutOfRange}
+use Rattle.refusal.specs.declared.Refusal.TheVariants.{LimitOrMemory, InvalidNameByte, NoSuchEntry, ExpectedFile, NotFound, NotEnoughSpace, InvalidSeek, InvalidDol, TotalsOutOfRange}
 use Rattle.tree.specs.declared.Entry.TheVariants.{File, Directory}
 use Rattle.tree.specs.declared.Found.TheVariants as found
 use Rattle.executable.specs.declared.dol.DolHeader.{DolHeader}
 use Rattle.space.specs.declared.totals.Totals.{Totals}
 use Rattle.space.specs.Totals.{totals_in}
 use Rattle.window.specs.declared.Window.{Window}
-use Rattle.counter.specs.Replies.{reply, replied, disc_words, disc_totals_words, region_words, one, window_in, window_words, totals_words, dol_words, program_reply, found_reply, dol_reply, dol_window_reply, done, numbered}
+use Rattle.counter.specs.Replies.{reply, accepts, replied, disc_words, disc_totals_words, region_words, one, window_in, window_words, totals_words, unit_words, dol_words, program_reply, found_reply, dol_reply, dol_window_reply, done, numbered}
 
 -- slots as they were before the call
 abbrev old : List ℕ
@@ -43,6 +43,12 @@ number-slots :
     (replied region_words old (Ok (record { offset = 1; size = 2 })) ≡ reply 0 (1 ∷ 2 ∷ [])) ×
     (numbered old (Ok tt) 1 ≡ reply 0 (1 ∷ []))
 number-slots = (refl, refl, refl)
+
+-- "unit[2]: its length in bytes .., and 0, 12 or 13"
+unit-slots :
+    (accepts (unit_words (record { len = 1; verdict = Err InvalidNameByte })) ≡ reply 0 (1 ∷ 12 ∷ [])) ×
+    (accepts (unit_words (record { len = 2; verdict = Ok tt })) ≡ reply 0 (2 ∷ 0 ∷ []))
+unit-slots = (refl, refl)
 
 -- windows: "three slots of 64 bits, start, length and position"
 

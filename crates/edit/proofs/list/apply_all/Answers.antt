@@ -2,7 +2,7 @@
 use Rattle.std.proofs.Common.{rules, arith, map, []}
 use Rattle.std.proofs.lemmas.List.{length-map}
 use Rattle.endian.specs.Bytes.{AllBytes}
-use Rattle.edit.specs.Inner.Decides.{edit_of}
+use Rattle.edit.specs.Asked.{edit_of}
 use Rattle.edit.proofs.Lists.{begun, turn, next, none-applied, none-holds, none-tells, all-applied, all-hold, all-tell}
 use Rattle.edit.proofs.list.apply_all.Goals as goal
 

@@ -1,6 +1,6 @@
 -- `list::apply_all` meets its contract. The invariant of its loop: the first i edits are applied, and the working memory is as long as it was.
 use Rattle.std.proofs.Common.{map, ◌≡◌, ◌≤◌, length}
-use Rattle.edit.specs.Inner.Decides.{edit_of}
+use Rattle.edit.specs.Asked.{edit_of}
 use Rattle.edit.proofs.Lists.{IsUnderway}
 use Rattle.edit.proofs.list.apply_all.Given as goal
 

@@ -1,0 +1,30 @@
+-- The edit that a value of `edit::Edit` asks for, and the clip that it brings. Assumes nothing: these are definitions.
+use Rattle.std.specs.Prelude.{ℕ, List, []}
+use Rattle.edits.specs.Edits as edits
+use Rattle.table_writing.specs.declared.kind.Kind.{Kind}
+use Rattle.table_writing.specs.declared.kind.Kind.TheVariants as kind
+use Rattle.edit.specs.declared.pipeline.Edit.{Edit}
+use Rattle.edit.specs.declared.pipeline.Edit.TheVariants as edit
+
+-- the two inserts as one: the edit that inserts an entry of the kind
+abbrev pub insertion : Kind → ℕ → List ℕ → edits.Edit
+insertion kind.Directory p nm = edits.insert_directory p nm
+insertion kind.File p nm = edits.insert_file p nm
+
+-- by its cases, with its name, path or clip
+abbrev pub edit_of : Edit → edits.Edit
+edit_of edit.Rewrite = edits.rewrite
+edit_of (edit.Move file offset) = edits.move_file file offset
+edit_of (edit.Resize file size) = edits.resize_file file size
+edit_of (edit.Fill file clip) = edits.fill_file file clip.now
+edit_of (edit.Insert new) = insertion new.kind new.parent new.name.now
+edit_of (edit.MakeDirectories start path) = edits.make_directories start path.now
+
+-- the clip that fills a file; none for the other edits
+abbrev pub clip_of : Edit → List ℕ
+clip_of edit.Rewrite = []
+clip_of (edit.Move file offset) = []
+clip_of (edit.Resize file size) = []
+clip_of (edit.Fill file clip) = clip.now
+clip_of (edit.Insert new) = []
+clip_of (edit.MakeDirectories start path) = []
