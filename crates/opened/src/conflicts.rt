@@ -10,16 +10,19 @@ use crate::faults::{About, Owner};
 use space::DiscRegion;
 use table::Table;
 
+// Kept: regions by their places and loops over these, since a region is known by whose it is and read where
+// it stands in the table; one without bytes has no byte to share, as in the definitions.
+
 // Whether two regions have a byte in common.
 #[tactic(auto, unfolding(space::specs::Layout::disjoint))]
-fn shares(a: DiscRegion, b: DiscRegion) -> bool
+fn overlaps(a: DiscRegion, b: DiscRegion) -> bool
     ensures { result ≡ not (disjoint a b) }
 {
     a.size != 0 && b.size != 0 && u64::from(b.offset) < a.end() && u64::from(a.offset) < b.end()
 }
 
 // Whether a region that is not empty passes the disc end.
-fn passes(region: DiscRegion, disc_end: u32) -> bool
+fn is_past(region: DiscRegion, disc_end: u32) -> bool
     ensures { result ≡ (nat_lt 0 region.size && nat_lt disc_end (end_of region)) }
 {
     0 < region.size && u64::from(disc_end) < region.end()
@@ -90,7 +93,7 @@ impl Layout<'_> {
     {
         let region = self.region(i);
         for j in 0..i {
-            if shares(self.region(j), region) {
+            if overlaps(self.region(j), region) {
                 return Some(j);
             }
         }
@@ -105,7 +108,7 @@ impl Layout<'_> {
             result ≡ faults.conflict_with disc_end (regions_before self.now i) region }
     {
         let region = self.region(i);
-        if passes(region, disc_end) {
+        if is_past(region, disc_end) {
             return Some(About::PastEnd(owner_at(i)));
         }
         let j = self.shared_with(i)?;

@@ -238,6 +238,7 @@ impl<'a> Entries<'a> {
     }
 
     // Whether one of those before the walk refuses the table.
+    // Kept: a question that one test asks, as `unended`.
     fn texts_refused(&self, words: usize) -> bool
         ensures { result ≡ faults.texts_refused self.now.table.now self.now.count words }
     {
@@ -270,6 +271,7 @@ pub fn check(table: &[u8], words: usize) -> Verdict
 }
 
 // The first entry after the root that is refused for its place or its kind.
+// Kept: over the entries' numbers, as `entries_verdict`.
 fn first_refused(table: &[u8], count: usize) -> Option<u32>
     requires root { 1 ≤ count }
     requires few { count ≤ 16384 }
