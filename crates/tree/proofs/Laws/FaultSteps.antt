@@ -9,22 +9,25 @@ use Rattle.tree.specs.Table.{node_at, nodes_from, entry_verdict, shut, enter}
 use Rattle.tree.specs.Faults.{first_refused, walk_refused}
 use Rattle.tree.proofs.Laws.Steps.{walk_entry}
 
-module _ (tab : List ℕ) (k n : ℕ) where
-  pub refused-here : k < n → is_err (entry_verdict tab k) ≡ true → first_refused tab k (n - k) ≡ Some k
+-- v is what the test of entry i answered, which is the turn's
+module _ (tab : List ℕ) (k n i : ℕ) (turn : i ≡ k) (v : Verdict) (test : v ≡ entry_verdict tab i) where
+  pub refused-here : k < n → is_err v ≡ true → first_refused tab k (n - k) ≡ Some k
   unfolding first_refused
   refused-here h e =
       let s : n - k ≡ suc (n - (k + 1)) = omega arith in
-      rw (s, e)
+      let t : is_err (entry_verdict tab k) ≡ true = rw (← turn, ← test) e in
+      rw (s, t)
 
-  pub refused-later : k < n → is_err (entry_verdict tab k) ≡ false → first_refused tab k (n - k) ≡ first_refused tab (k + 1) (n - (k + 1))
+  pub refused-later : k < n → is_err v ≡ false → first_refused tab k (n - k) ≡ first_refused tab (k + 1) (n - (k + 1))
   unfolding first_refused
   refused-later h e =
       let s : n - k ≡ suc (n - (k + 1)) = omega arith in
-      rw (s, e, add-one k)
+      let t : is_err (entry_verdict tab k) ≡ false = rw (← turn, ← test) e in
+      rw (s, t, add-one k)
 
-  pub refused_none : n ≤ k → first_refused tab k (n - k) ≡ None
-  unfolding first_refused
-  refused_none h = let s : n - k ≡ 0 = omega arith in rw s
+pub refused_none : (tab : List ℕ) (k n : ℕ) → n ≤ k → first_refused tab k (n - k) ≡ None
+unfolding first_refused
+refused_none tab k n h = let s : n - k ≡ 0 = omega arith in rw s
 
 -- v is what the entry's own tests answered
 module _ (tab : List ℕ) (c : ℕ) (dirs : List ℕ) (k n : ℕ) where
