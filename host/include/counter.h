@@ -72,6 +72,12 @@ extern "C" {
 #define COUNTER_WINDOW_SLOTS 3
 #define COUNTER_RECORD_SLOTS 3
 #define COUNTER_UNIT_SLOTS 2
+#define COUNTER_FAULT_SLOTS 4
+
+/* ---- whose a used region is, in the slots of counter_fault: a file's by its number, from 1 on */
+
+#define COUNTER_OF_TABLE 0 /* the bytes from 0 up to the table's end */
+#define COUNTER_OF_PROGRAM UINT32_MAX
 
 /* ---- limits: an image with more does not open, and no edit makes one */
 
@@ -128,6 +134,20 @@ uint32_t counter_header(const uint8_t *image, size_t image_len, uint8_t fields[C
 
 /* Opens the image. answer[5]: FST offset, FST size, disc end, entries, used total. */
 uint32_t counter_open(const uint8_t *image, size_t image_len, uint32_t *words, size_t words_len, uint32_t answer[COUNTER_OPEN_SLOTS]);
+
+/* What counter_open refuses the image for. It refuses nothing itself: it returns 0. answer[4]: the number that opening refuses the image with,
+ * 0 if it opens; and what of the image that is about:
+ *
+ *     0  nothing more to tell
+ *     1  entry answer[2], the first behind the root that is refused: 5, 6, 9 for its depth, 10 to 13
+ *     2  two used regions that share a byte, answer[2] and answer[3]: 14
+ *     3  used region answer[2], which passes the disc end: 14
+ *     4  section answer[2] of the program, 0 to 6 of text and 7 to 17 of data, the first whose offset + size passes 2^32 - 1: 24
+ *
+ * A used region is named by its file's number, COUNTER_OF_TABLE or COUNTER_OF_PROGRAM. Of the bytes up to the table's end, the program's
+ * and each file's in table order, it is the first that passes the disc end, or that shares a byte with one before it: that one is
+ * answer[2]. Slots that say nothing are 0. */
+uint32_t counter_fault(const uint8_t *image, size_t image_len, uint32_t *words, size_t words_len, uint32_t answer[COUNTER_FAULT_SLOTS]);
 
 /* answer[2]: disc end, used total. */
 uint32_t counter_totals(const uint8_t *image, size_t image_len, uint32_t *words, size_t words_len, uint32_t answer[COUNTER_TOTALS_SLOTS]);

@@ -1,10 +1,15 @@
 -- What the calls give back in C: each answer's number, 0 where the call is accepted (RULES, Causes), and the
 -- slots that the caller lends, as many as the answer has words. With a refusal they stay. Assumes nothing:
 -- these are definitions.
-use Rattle.std.specs.Prelude.{Some, None, Result, Ok, Err, ℕ, List, [], ◌∷◌, ◌++◌, slice_index}
+use Rattle.std.specs.Prelude.{Option, Some, None, Result, Ok, Err, ℕ, ◌-◌, ◌^◌, List, [], ◌∷◌, ◌++◌, replicate, slice_index}
 use Rattle.refusal.specs.declared.Refusal.{Refusal}
 use Rattle.refusal.specs.Refusal.{Verdict, number_of}
 use Rattle.opened.specs.declared.summary.Disc.{Disc}
+use Rattle.opened.specs.declared.faults.Owner.{Owner}
+use Rattle.opened.specs.declared.faults.Owner.TheVariants as owner
+use Rattle.opened.specs.declared.faults.About.{About}
+use Rattle.opened.specs.declared.faults.About.TheVariants as about
+use Rattle.opened.specs.declared.faults.Fault.{Fault}
 use Rattle.space.specs.declared.region.DiscRegion.{DiscRegion}
 use Rattle.disc.specs.declared.answers.DiscTotals.{DiscTotals}
 use Rattle.disc.specs.declared.answers.FirstUnit.{FirstUnit}
@@ -91,6 +96,26 @@ unfoldable pub dol_words : DolHeader → List ℕ
 dol_words h =
     (h.text_offsets ++ h.data_offsets)
     ++ ((h.text_addresses ++ h.data_addresses) ++ ((h.text_sizes ++ h.data_sizes) ++ (h.bss_address ∷ h.bss_size ∷ h.entry_point ∷ [])))
+
+-- ---- what a refusal of opening is about
+
+-- a used region by its file's number, 0 for the bytes up to the table's end
+abbrev pub owner_number : Owner → ℕ
+owner_number owner.Table = 0
+owner_number owner.Program = 2 ^ 32 - 1
+owner_number (owner.Entry k) = k
+
+abbrev pub about_words : About → List ℕ
+about_words about.Image = 0 ∷ 0 ∷ 0 ∷ []
+about_words (about.Entry k) = 1 ∷ k ∷ 0 ∷ []
+about_words (about.Shared r s) = 2 ∷ owner_number r ∷ owner_number s ∷ []
+about_words (about.PastEnd r) = 3 ∷ owner_number r ∷ 0 ∷ []
+about_words (about.Section i) = 4 ∷ i ∷ 0 ∷ []
+
+-- the number that opening refuses with, 0 where it does not
+abbrev pub fault_words : Option Fault → List ℕ
+fault_words None = replicate 4 0
+fault_words (Some f) = number_of f.cause ∷ about_words f.about
 
 -- ---- answers of other forms, over the slots as they were
 

@@ -19,8 +19,8 @@ pub use editing::{
 pub use headers::{counter_header, counter_open_dol};
 pub use names::{counter_component, counter_name, counter_unit};
 pub use reading::{
-    counter_entries, counter_entry, counter_lookup, counter_make_record, counter_open,
-    counter_program, counter_table_anew, counter_totals,
+    counter_entries, counter_entry, counter_fault, counter_lookup, counter_make_record,
+    counter_open, counter_program, counter_table_anew, counter_totals,
 };
 pub use regions::{
     counter_allocate, counter_free_clusters, counter_free_regions, counter_max_file_size,

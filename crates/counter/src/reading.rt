@@ -4,12 +4,14 @@ ghost use Rattle.disc.specs.Calls.{opened_of, totals_answer, record_answer, prog
 ghost use Rattle.disc.specs.Files.{entry_answer, lookup_answer, entries_answer, entries_list};
 ghost use Rattle.edit.specs.TableAnew.{anew_answer, anew_buffer};
 ghost use Rattle.opened.specs.Opening.{zeros};
+ghost use Rattle.opened.specs.Faults.{fault_of};
 ghost use Rattle.counter.specs.Replies.{reply, replied, disc_words, disc_totals_words, totals_words};
-ghost use Rattle.counter.specs.Replies.{region_words, found_reply, program_reply, one};
+ghost use Rattle.counter.specs.Replies.{region_words, found_reply, program_reply, one, accepts};
+ghost use Rattle.counter.specs.Replies as replies;
 
 use crate::answer::give;
 use disc::DiscTotals;
-use opened::Disc;
+use opened::{About, Disc, Fault, Owner};
 use space::{DiscRegion, Totals};
 use tree::{Entry, Found};
 
@@ -29,6 +31,42 @@ fn give_found(answer: &mut [u32; 4], found: Found) -> u32
             give(answer, Ok([number, 1, directory.parent, directory.next]))
         }
         Found::Refused(cause) => give(answer, Err(cause)),
+    }
+}
+
+// ---- what a refusal is about, in words
+
+fn owner_number(owner: Owner) -> u32
+    ensures { result ≡ replies.owner_number owner }
+{
+    match owner {
+        Owner::Table => 0,
+        Owner::Program => u32::MAX,
+        Owner::Entry(number) => number,
+    }
+}
+
+fn about_words(about: About) -> [u32; 3]
+    ensures { result ≡ replies.about_words about }
+{
+    match about {
+        About::Image => [0, 0, 0],
+        About::Entry(number) => [1, number, 0],
+        About::Shared(first, second) => [2, owner_number(first), owner_number(second)],
+        About::PastEnd(owner) => [3, owner_number(owner), 0],
+        About::Section(section) => [4, section, 0],
+    }
+}
+
+fn fault_words(fault: Option<Fault>) -> [u32; 4]
+    ensures { result ≡ replies.fault_words fault }
+{
+    match fault {
+        None => [0; 4],
+        Some(fault) => {
+            let [kind, first, second] = about_words(fault.about);
+            [fault.cause.into(), kind, first, second]
+        }
     }
 }
 
@@ -140,4 +178,16 @@ pub extern "C" fn counter_table_anew(
     ensures words_zero { words.new ≡ zeros words.old }
 {
     give(answer, edit::table_anew(image, words, table))
+}
+
+// What opening refuses the image for. It refuses nothing itself.
+// Kept: four words, as for an entry (C).
+#[unsafe(no_mangle)]
+pub extern "C" fn counter_fault(image: &[u8], words: &mut [u32], answer: &mut [u32; 4]) -> u32
+    ensures answer { reply result answer.new
+        ≡ accepts (replies.fault_words (fault_of image.now (length words.old))) }
+    ensures words_zero { words.new ≡ zeros words.old }
+{
+    *answer = fault_words(disc::fault(image, words));
+    0
 }

@@ -4,6 +4,7 @@
 
 mod answers;
 mod dol;
+mod faults;
 mod lookups;
 mod names;
 mod regions;
@@ -11,6 +12,7 @@ mod rows;
 
 pub use answers::{DiscTotals, DolFile, FirstUnit};
 pub use dol::open_dol;
+pub use faults::fault;
 pub use lookups::{entry, lookup, max_file_size, open_file};
 pub use names::{component_length, first_unit, judge_name};
 pub use regions::{

@@ -1,5 +1,5 @@
 -- One turn of each loop: one word more, and one sum more. Assumes nothing.
-use Prim.Native.Nat.{ℕ, zero, suc, ◌+◌, ◌*◌, ◌<◌, max}
+use Prim.Native.Nat.{ℕ, zero, suc, ◌+◌, ◌-◌, ◌*◌, ◌^◌, ◌<◌, ◌≤◌, max}
 use mathlib.Core.Logic.{◌⊎◌, inl, inr}
 use mathlib.Core.Path.{◌≡◌, refl, sym, ap, ◌∙◌}
 use mathlib.Core.List.{List, [], ◌∷◌, ◌++◌}
@@ -7,7 +7,10 @@ use native.Mathlib.Omega.{arith}
 use native.Mathlib.Numerals.{add-one}
 use lib.ListN.{length, drop, set}
 use lib.Seq.{drop-cons, append_snoc, set_at}
+use borrow.Author.Tests.{lt-ltb, le-ltb}
+use Rattle.std.specs.Prelude.{Some, None, if◌then◌else◌, nat_lt}
 use Rattle.endian.specs.Bytes.{be32}
+use Rattle.executable.specs.Sections.{section_end, first_past, refused_section}
 use Rattle.executable.specs.Dol.{words_at, largest_of}
 use Rattle.executable.specs.Laws.DolFacts.{length-words}
 
@@ -36,3 +39,25 @@ largest-none (o ∷ os) (s ∷ ss) (inr e) = cc
 
 pub largest-end : (os ss : List ℕ) (all top : ℕ) → (os ≡ []) ⊎ (ss ≡ []) → all ≡ max top (largest_of os ss) → top ≡ all
 largest-end os ss all top e h = omega (arith, largest-none os ss e)
+
+-- ---- a loop over the 18 sections that looks for the first that ends above 2^32 - 1
+
+section-step : (s : List ℕ) (at i : ℕ) → i < 18 → first_past s at i (18 - i) ≡ (if nat_lt (2 ^ 32 - 1) (section_end s at i) then Some i else first_past s at (i + 1) (18 - (i + 1)))
+unfolding first_past
+section-step s at i h = let e : 18 - i ≡ suc (18 - (i + 1)) = omega arith in rw (e, add-one i)
+
+module _ (s : List ℕ) (at : ℕ) (inside : at + 0xE4 ≤ length s) (i : ℕ) (left : first_past s at 0 18 ≡ first_past s at i (18 - i)) where
+  pub section-here : i < 18 → 2 ^ 32 - 1 < section_end s at i → Some i ≡ refused_section s at
+  unfolding refused_section
+  section-here h p = rw (le-ltb (length s) (at + 0xE4) inside, left, section-step s at i h, lt-ltb (2 ^ 32 - 1) (section_end s at i) p)
+
+  pub section-later : i < 18 → section_end s at i ≤ 2 ^ 32 - 1 → first_past s at 0 18 ≡ first_past s at (i + 1) (18 - (i + 1))
+  section-later h p = left ∙ section-step s at i h ∙ rw (le-ltb (2 ^ 32 - 1) (section_end s at i) p)
+
+  pub section_none : 18 ≤ i → None ≡ refused_section s at
+  unfolding refused_section first_past
+  section_none h = let e : 18 - i ≡ 0 = omega arith in rw (le-ltb (length s) (at + 0xE4) inside, left, e)
+
+pub header-past : (s : List ℕ) (at : ℕ) → length s < at + 0xE4 → None ≡ refused_section s at
+unfolding refused_section
+header-past s at h = rw (lt-ltb (length s) (at + 0xE4) h)

@@ -4,6 +4,7 @@ ghost use Rattle.window.specs.Window.{new_window};
 ghost use Rattle.executable.specs.Dol as dol_of;
 ghost use Rattle.executable.specs.Dol.{largest_of, new_header, dol_header_of, file_size_of};
 ghost use Rattle.executable.specs.Dol.{dol_answer_of, dol_size_of};
+ghost use Rattle.executable.specs.Sections as sections;
 
 use refusal::Refusal;
 use window::Window;
@@ -123,6 +124,25 @@ pub fn read(image: &[u8], at: usize) -> Result<DolAnswer, Refusal>
     let size = size(image, at)?;
     let header = header_at(image, at);
     Ok(DolAnswer { header, size })
+}
+
+/// The section that the header at `at` is refused for: the first whose offset + size passes 2^32 - 1, 0 to 6 of
+/// text and 7 to 17 of data. `None` where the header passes the image, and where it is not refused.
+// Kept: over numbers, since a section's two fields stand apart, at the same number of their rows.
+pub fn refused_section(image: &[u8], at: usize) -> Option<u32>
+    ensures { result ≡ sections.refused_section image.now at }
+{
+    if image.len() < 0xE4 || image.len() - 0xE4 < at {
+        return None;
+    }
+    for i in 0..18 {
+        let offset = endian::read_u32(image, at + 4 * i);
+        let size = endian::read_u32(image, at + 0x90 + 4 * i);
+        if u64::from(u32::MAX) < u64::from(offset) + u64::from(size) {
+            return Some(i as u32);
+        }
+    }
+    None
 }
 
 impl DolAnswer {

@@ -4,5 +4,5 @@
 pub mod dol;
 pub mod program;
 
-pub use dol::{DolAnswer, DolHeader, size};
+pub use dol::{DolAnswer, DolHeader, refused_section, size};
 pub use program::{Program, own_region};

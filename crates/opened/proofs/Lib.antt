@@ -5,6 +5,8 @@ pub mod Fewer
 pub mod Heads
 pub mod Laws
 pub mod Opens
+pub mod OwnedRegions
+pub mod Stages
 pub mod Tests
 pub mod UsedRegions
 pub mod Words

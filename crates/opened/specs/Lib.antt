@@ -1,3 +1,4 @@
 pub mod Answers
+pub mod Faults
 pub mod Inner
 pub mod Opening

@@ -3,7 +3,9 @@
 // the parts are cut.
 #![tactic(auto)]
 
+mod conflicts;
 mod cut;
+mod faults;
 mod lent;
 mod open_disc;
 mod parts;
@@ -12,6 +14,7 @@ mod summary;
 mod whole;
 
 pub use cut::parts_of;
+pub use faults::{About, Fault, Owner, subject};
 pub use lent::{Lent, Zero};
 pub use open_disc::OpenDisc;
 pub use parts::Parts;

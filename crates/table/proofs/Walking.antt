@@ -1,5 +1,5 @@
 -- One turn of each loop that looks for the first refusal, and the open directories kept in words. Assumes nothing.
-use Rattle.std.specs.Prelude.{Ok}
+use Rattle.std.specs.Prelude.{Ok, Err, None, Some, is_err}
 use Rattle.refusal.specs.Refusal.{Verdict}
 use Prim.Native.Nat.{ℕ, zero, suc, ◌+◌, ◌-◌, ◌*◌, ◌<◌, ◌≤◌}
 use mathlib.Core.Path.{◌≡◌, refl, sym, ap, ◌∙◌}
@@ -7,7 +7,7 @@ use mathlib.Core.Bool.{true, false}
 use mathlib.Core.List.{List, [], ◌∷◌}
 use native.Mathlib.Omega.{arith}
 use native.Mathlib.Numerals.{add-one}
-use borrow.Author.Tests.{ltb-false, le-leb, lt-leb}
+use borrow.Author.Tests.{ltb-false, le-leb, lt-leb, le-ltb, eq-eqb}
 use lib.ListN.{length, get_or, set, drop}
 use lib.Seq.{get_or-set_same, get_or-set_other}
 use lib.Dec.{leb, ltb}
@@ -15,6 +15,8 @@ use Rattle.refusal.specs.declared.Refusal.TheVariants.{EntryPastTable, Unrecogni
 use Rattle.refusal.specs.Refusal.{refuse, is_refused}
 use Rattle.refusal.specs.Laws.Chains.{refuse-passed, first-passed}
 use Rattle.tree.specs.Table.{file, directory, count, kind, name_offset, offset_or_parent, size_or_next, name_at, node_with, node_at, nodes_from, entry_verdict, entries_verdict, top, shut, enter, next_verdict, walk}
+use Rattle.tree.specs.Faults.{first_refused, walk_refused, root_refused, texts_refused, refused_entry}
+use Rattle.tree.proofs.Laws.FaultSteps.{stopped-here, stopped-later, stopped_none}
 use Rattle.tree.proofs.Laws.Steps.{walk_entry, walk-stop, walk-go, walk_end}
 use Rattle.table.specs.Inner.Reading.{Inside, open_in, node_verdict}
 use Rattle.tree.proofs.Laws.Accepted.{name_of-node_at}
@@ -134,3 +136,53 @@ module _ {tab : List ℕ} {c : ℕ} {dirs : List ℕ} {k : ℕ} (w : Walked tab 
 
 pub walked_end : (tab : List ℕ) (c : ℕ) (dirs : List ℕ) (k : ℕ) → Walked tab c dirs k → c ≤ k → Ok tt ≡ walk tab c (c ∷ []) 1 (nodes_from tab c 1 (c - 1))
 walked_end tab c dirs k w h = sym (w.left ∙ walk_end tab c dirs k c h)
+
+-- ---- the same loop where it looks for the entry
+
+pub record Sought (tab : List ℕ) (c : ℕ) (dirs : List ℕ) (k : ℕ) : Type 0 where
+  pub from : 1 ≤ k
+  pub left : walk_refused tab c (c ∷ []) 1 (nodes_from tab c 1 (c - 1)) ≡ walk_refused tab c dirs k (nodes_from tab c k (c - k))
+
+pub sought_start : (tab : List ℕ) (c : ℕ) → Sought tab c (c ∷ []) 1
+sought_start tab c = record { from = omega arith; left = refl }
+
+module _ {tab : List ℕ} {c : ℕ} {dirs : List ℕ} {k : ℕ} (w : Sought tab c dirs k) (around : List ℕ) (shuts : around ≡ shut k dirs) (v : Verdict) (test : v ≡ node_verdict tab c around k) (more : k < c) where
+  same_test : v ≡ walk_entry tab c dirs k (node_at tab c k)
+  same_test = test ∙ rw (shuts, name_of-node_at tab c k)
+
+  pub sought-here : is_err v ≡ true → Some k ≡ walk_refused tab c (c ∷ []) 1 (nodes_from tab c 1 (c - 1))
+  sought-here r = sym (w.left ∙ stopped-here tab c dirs k c v more same_test r)
+
+  pub sought-turn : is_err v ≡ false → (next : List ℕ) → next ≡ enter around (node_at tab c k) → Sought tab c next (k + 1)
+  sought-turn r next e = record { from = omega arith; left = w.left ∙ stopped-later tab c dirs k c v more same_test r ∙ rw (e, shuts) }
+
+pub sought_end : (tab : List ℕ) (c : ℕ) (dirs : List ℕ) (k : ℕ) → Sought tab c dirs k → c ≤ k → None ≡ walk_refused tab c (c ∷ []) 1 (nodes_from tab c 1 (c - 1))
+sought_end tab c dirs k w h = sym (w.left ∙ stopped_none tab c dirs k c h)
+
+pub not_refused : (v : Verdict) → is_err v ≡ false → Ok tt ≡ v
+not_refused (Ok _) e = refl
+not_refused (Err c) e = cc
+
+-- ---- the entry that a table is refused for, by the tests that led there
+
+module _ (tab : List ℕ) (words : ℕ) where
+  pub entry-of-root : root_refused tab ≡ true → None ≡ refused_entry tab words
+  unfolding refused_entry
+  entry-of-root e = rw e
+
+  module _ (root : root_refused tab ≡ false) where
+    pub entry-of-entries : is_err (entries_verdict tab 1 (count tab - 1)) ≡ true → refused_entry tab words ≡ first_refused tab 1 (count tab - 1)
+    unfolding refused_entry
+    entry-of-entries e = rw (root, e)
+
+    module _ (entries : is_err (entries_verdict tab 1 (count tab - 1)) ≡ false) where
+      pub entry-of-texts : texts_refused tab (count tab) words ≡ true → None ≡ refused_entry tab words
+      unfolding refused_entry
+      entry-of-texts e = rw (root, entries, e)
+
+      pub entry-of-walk : texts_refused tab (count tab) words ≡ false → refused_entry tab words ≡ walk_refused tab (count tab) (count tab ∷ []) 1 (nodes_from tab (count tab) 1 (count tab - 1))
+      unfolding refused_entry
+      entry-of-walk e = rw (root, entries, e)
+
+pub root-passed : (tab : List ℕ) → 12 ≤ length tab → kind tab 0 ≡ 1 → count tab ≤ 16384 → root_refused tab ≡ false
+root-passed tab l k c = rw (le-ltb (length tab) 12 l, eq-eqb (kind tab 0) 1 k, le-ltb 16384 (count tab) c)

@@ -1,7 +1,8 @@
 // Whether a table is accepted: its root, then each entry's place and kind, then the limits, and then a walk
-// over the names and over what nests in what.
+// over the names and over what nests in what. And of one that is not, which entry it is refused for.
 ghost use Rattle.std.specs.Prelude.{◌≡◌, [], ◌∷◌, ◌-◌, ◌*◌, ◌≤◌, ◌<◌, length};
 ghost use Rattle.tree.specs.Table as table_of;
+ghost use Rattle.tree.specs.Faults as faults;
 ghost use Rattle.tree.specs.Table.{name_offset, name_at, node_at, nodes_from, name_verdict, next_verdict};
 ghost use Rattle.table.specs.Inner.Reading.{Inside, node_verdict, texts_verdict, text_verdict};
 ghost use Rattle.table.specs.Inner.Texts.{text_at};
@@ -187,6 +188,27 @@ impl<'a> Entries<'a> {
         Ok(())
     }
 
+    // The first entry after the root that the walk refuses.
+    // Kept: the loop of `walk` once more, which tells the cause and is run on every image; this one is run
+    // after a refusal alone.
+    fn walk_refused(&self) -> Option<u32>
+        ensures { let table = self.now.table.now in let count = self.now.count in
+            let nodes = nodes_from table count 1 (count - 1) in
+            result ≡ faults.walk_refused table count (count ∷ []) 1 nodes }
+    {
+        let mut texts = Survey::new(self.table, 12 * self.count);
+        let mut dirs = Stack::new();
+        dirs.push(self.count as u32);
+        for k in 1..self.count {
+            shut(&mut dirs, k);
+            if self.node_verdict(&mut texts, &dirs, k).is_err() {
+                return Some(k as u32);
+            }
+            self.enter(&mut dirs, k);
+        }
+        None
+    }
+
     // Whether texts stand after the entries, and the last has no zero byte at its end.
     // Kept: it answers a question that the one test asks; the refusal stands there, in the order of the
     // tests.
@@ -214,6 +236,17 @@ impl<'a> Entries<'a> {
         }
         self.walk()
     }
+
+    // Whether one of those before the walk refuses the table.
+    // Kept: a question that one test asks, as `unended`.
+    fn texts_refused(&self, words: usize) -> bool
+        ensures { result ≡ faults.texts_refused self.now.table.now self.now.count words }
+    {
+        self.unended()
+            || 1048576 < self.table.len() - 12 * self.count
+            || words < 4 * (self.count + 2)
+            || endian::read_u32(self.table, 8) == 0
+    }
 }
 
 /// Whether a table is accepted where so many working words are lent. No word is written: the walk needs none.
@@ -235,4 +268,44 @@ pub fn check(table: &[u8], words: usize) -> Verdict
     }
     entries_verdict(table, count)?;
     Entries { table, count }.texts_verdict(words)
+}
+
+// The first entry after the root that is refused for its place or its kind.
+// Kept: over the entries' numbers, as `entries_verdict`.
+fn first_refused(table: &[u8], count: usize) -> Option<u32>
+    requires root { 1 ≤ count }
+    requires few { count ≤ 16384 }
+    ensures { result ≡ faults.first_refused table.now 1 (count - 1) }
+{
+    for k in 1..count {
+        if entry_verdict(table, k).is_err() {
+            return Some(k as u32);
+        }
+    }
+    None
+}
+
+/// The entry that a table is refused for where so many working words are lent: `None` where it is its root, a
+/// limit of the whole table or its texts, and where the table is accepted.
+pub fn refused_entry(table: &[u8], words: usize) -> Option<u32>
+    ensures { result ≡ faults.refused_entry table.now words }
+{
+    if table.len() < 12 {
+        return None;
+    }
+    if table[0] != 1 {
+        return None;
+    }
+    let count = count(table);
+    if 16384 < count {
+        return None;
+    }
+    if entries_verdict(table, count).is_err() {
+        return first_refused(table, count);
+    }
+    let entries = Entries { table, count };
+    if entries.texts_refused(words) {
+        return None;
+    }
+    entries.walk_refused()
 }

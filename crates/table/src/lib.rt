@@ -17,7 +17,7 @@ mod stack;
 mod text;
 mod units;
 
-pub use acceptance::check;
+pub use acceptance::{check, refused_entry};
 pub use components::Components;
 pub use entries::Table;
 pub use name::text_length;

@@ -2,6 +2,8 @@
 pub mod Accepted
 pub mod ChildInsert
 pub mod Depth
+pub mod FaultLaws
+pub mod FaultSteps
 pub mod Growing
 pub mod InsertLaws
 pub mod LookupLaws

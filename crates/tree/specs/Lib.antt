@@ -1,5 +1,6 @@
 pub mod Units
 pub mod Table
+pub mod Faults
 pub mod Lookup
 pub mod Insert
 pub mod Inner

@@ -1,5 +1,6 @@
 -- What follows from the definitions.
 pub mod Applied
+pub mod FaultsTold
 pub mod Fills
 pub mod ListAsOne
 pub mod ListImages

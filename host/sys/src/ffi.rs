@@ -10,6 +10,13 @@ unsafe extern "C" {
         words_len: usize,
         answer: *mut [u32; 5],
     ) -> u32;
+    pub fn counter_fault(
+        image: *const u8,
+        image_len: usize,
+        words: *mut u32,
+        words_len: usize,
+        answer: *mut [u32; 4],
+    ) -> u32;
     pub fn counter_totals(
         image: *const u8,
         image_len: usize,

@@ -62,6 +62,38 @@ pub struct Record {
     pub edits: u32,
 }
 
+/// Whose a used region is.
+#[derive(Debug, Clone, Copy, PartialEq, Eq)]
+pub enum Owner {
+    /// The bytes from 0 up to the table's end.
+    Table,
+    Program,
+    /// The file with this number.
+    Entry(u32),
+}
+
+/// What of an image a refusal of opening is about.
+#[derive(Debug, Clone, Copy, PartialEq, Eq)]
+pub enum About {
+    /// Nothing more is told than the number.
+    Image,
+    /// The first entry behind the root that is refused: 5, 6, 9 for its depth, 10 to 13.
+    Entry(u32),
+    /// Two used regions that share a byte: 14.
+    Shared(Owner, Owner),
+    /// A used region that passes the disc end: 14.
+    PastEnd(Owner),
+    /// The first section, 0 to 6 of text and 7 to 17 of data, whose offset + size passes 2^32 - 1: 24.
+    Section(u32),
+}
+
+/// The number that opening refuses an image with, and what of it that is about.
+#[derive(Debug, Clone, Copy, PartialEq, Eq)]
+pub struct Fault {
+    pub number: u32,
+    pub about: About,
+}
+
 /// Words of one entry in the list that `entries` fills.
 pub const ENTRY_WORDS: usize = 6;
 
@@ -116,6 +148,24 @@ fn window(answer: [u64; 3]) -> Window {
     Window { start: answer[0], length: answer[1], position: answer[2] }
 }
 
+fn owner(number: u32) -> Owner {
+    match number {
+        0 => Owner::Table,
+        u32::MAX => Owner::Program,
+        number => Owner::Entry(number),
+    }
+}
+
+fn about([kind, first, second]: [u32; 3]) -> About {
+    match kind {
+        0 => About::Image,
+        1 => About::Entry(first),
+        2 => About::Shared(owner(first), owner(second)),
+        3 => About::PastEnd(owner(first)),
+        _ => About::Section(first),
+    }
+}
+
 // Reading ---------------------------------------------------------------------------------
 
 /// The header as it is read and written back.
@@ -129,6 +179,14 @@ pub fn open(image: &[u8], memory: &mut Memory) -> Answer<Opened> {
     let mut answer = [0; 5];
     told(unsafe { call!(counter_open(in image, mut memory.words, = &mut answer)) })?;
     Ok(opened(answer))
+}
+
+/// What opening refuses an image for; none where it opens.
+pub fn fault(image: &[u8], words: &mut [u32]) -> Option<Fault> {
+    let mut answer = [0; 4];
+    unsafe { call!(counter_fault(in image, mut words, = &mut answer)) };
+    let [number, kind, first, second] = answer;
+    (number != 0).then(|| Fault { number, about: about([kind, first, second]) })
 }
 
 /// The disc end and the used total.

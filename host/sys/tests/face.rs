@@ -259,6 +259,45 @@ fn names_and_paths() {
     }
 }
 
+/// What a refusal of opening is about, of each kind.
+#[test]
+fn what_a_refusal_is_about() {
+    use counter_sys::{About, Fault, Owner};
+    let told = |changed: &[(usize, &[u8])]| {
+        let (mut image, mut words) = (small_master(), [9; 16]);
+        for (at, bytes) in changed {
+            image[*at..at + bytes.len()].copy_from_slice(bytes);
+        }
+        let fault = counter_sys::fault(&image, &mut words);
+        assert_eq!(words, [0; 16]);
+        fault
+    };
+    let fault = |number, about| Some(Fault { number, about });
+    assert_eq!(told(&[]), None);
+    assert_eq!(counter_sys::fault(&[], &mut []), fault(1, About::Image));
+    assert_eq!(counter_sys::fault(&small_master(), &mut [9; 15]), fault(9, About::Image));
+    assert_eq!(told(&[(0x440, &[2])]), fault(6, About::Image));
+    assert_eq!(told(&[(0x44c, &[2])]), fault(6, About::Entry(1)));
+    assert_eq!(told(&[(0x44b, &[3])]), fault(5, About::Entry(2)));
+    assert_eq!(told(&[(0x458, &[0x7f])]), fault(12, About::Entry(1)));
+    // At the table, past the disc end.
+    assert_eq!(told(&[(0x452, &[4])]), fault(14, About::Shared(Owner::Table, Owner::Entry(1))));
+    assert_eq!(told(&[(0x454, &[1])]), fault(14, About::PastEnd(Owner::Entry(1))));
+    // A program before the table, over the file, past the disc end, and past the image; sums of 2^32 - 1 and 2^32.
+    let program = |at: u32, changed: &[(usize, &[u8])]| {
+        told(&[&[(0x420, &at.to_be_bytes()[..])], changed].concat())
+    };
+    let (table, own, a) = (Owner::Table, Owner::Program, Owner::Entry(1));
+    assert_eq!(program(0x100, &[]), fault(14, About::Shared(table, own)));
+    assert_eq!(program(0x480, &[]), fault(14, About::Shared(own, a)));
+    assert_eq!(program(0x1000, &[(0x1090, &[1])]), fault(14, About::PastEnd(own)));
+    assert_eq!(program(0x1f1c, &[]), None);
+    assert_eq!(program(0x1f1d, &[]), fault(24, About::Image));
+    assert_eq!(program(0x1000, &[(0x1044, &[0xff; 4])]), fault(14, About::PastEnd(own)));
+    let sum: [(usize, &[u8]); 2] = [(0x1024, &[0x80]), (0x10b4, &[0x80])];
+    assert_eq!(program(0x1000, &sum), fault(24, About::Section(9)));
+}
+
 /// The file is the clip afterwards, and what it loses is zero. A clip of its own size wants no bytes.
 #[test]
 fn a_file_filled_with_a_clip() {

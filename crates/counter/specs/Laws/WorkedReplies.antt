@@ -1,14 +1,16 @@
 -- One reply of each kind, by computing: every slot holds a number of its own, in the order that host/include/counter.h gives them, so that the
 -- order is said twice. Assumes nothing.
 use Rattle.std.specs.Prelude.{Some, None, Ok, Err, ℕ, zero, suc, ◌≡◌, refl, List, [], ◌∷◌}
-use Rattle.refusal.specs.declared.Refusal.TheVariants.{LimitOrMemory, InvalidNameByte, NoSuchEntry, ExpectedFile, NotFound, NotEnoughSpace, InvalidSeek, InvalidDol, TotalsOutOfRange}
+use Rattle.refusal.specs.declared.Refusal.TheVariants.{LimitOrMemory, InvalidNameByte, NoSuchEntry, ExpectedFile, NotFound, NotEnoughSpace, InvalidSeek, InvalidDol, TotalsOutOfRange, OverlappingRegions}
 use Rattle.tree.specs.declared.Entry.TheVariants.{File, Directory}
 use Rattle.tree.specs.declared.Found.TheVariants as found
 use Rattle.executable.specs.declared.dol.DolHeader.{DolHeader}
 use Rattle.space.specs.declared.totals.Totals.{Totals}
 use Rattle.space.specs.Totals.{totals_in}
 use Rattle.window.specs.declared.Window.{Window}
-use Rattle.counter.specs.Replies.{reply, accepts, replied, disc_words, disc_totals_words, region_words, one, window_in, window_words, totals_words, unit_words, dol_words, program_reply, found_reply, dol_reply, dol_window_reply, done, numbered}
+use Rattle.opened.specs.declared.faults.Owner.TheVariants as owner
+use Rattle.opened.specs.declared.faults.About.TheVariants as about
+use Rattle.counter.specs.Replies.{reply, accepts, replied, fault_words, disc_words, disc_totals_words, region_words, one, window_in, window_words, totals_words, unit_words, dol_words, program_reply, found_reply, dol_reply, dol_window_reply, done, numbered}
 
 -- slots as they were before the call
 abbrev old : List ℕ
@@ -49,6 +51,17 @@ unit-slots :
     (accepts (unit_words (record { len = 1; verdict = Err InvalidNameByte })) ≡ reply 0 (1 ∷ 12 ∷ [])) ×
     (accepts (unit_words (record { len = 2; verdict = Ok tt })) ≡ reply 0 (2 ∷ 0 ∷ []))
 unit-slots = (refl, refl)
+
+-- "answer[4]: the number that opening refuses the image with, 0 if it opens; and what of the image that is about": nothing more, an entry, two used
+-- regions, one, a section
+fault-slots :
+    (fault_words None ≡ 0 ∷ 0 ∷ 0 ∷ 0 ∷ []) ×
+    (fault_words (Some (record { cause = InvalidDol; about = about.Image })) ≡ 24 ∷ 0 ∷ 0 ∷ 0 ∷ []) ×
+    (fault_words (Some (record { cause = LimitOrMemory; about = about.Entry 7 })) ≡ 9 ∷ 1 ∷ 7 ∷ 0 ∷ []) ×
+    (fault_words (Some (record { cause = OverlappingRegions; about = about.Shared owner.Program (owner.Entry 7) })) ≡ 14 ∷ 2 ∷ 0xFFFFFFFF ∷ 7 ∷ []) ×
+    (fault_words (Some (record { cause = OverlappingRegions; about = about.PastEnd owner.Table })) ≡ 14 ∷ 3 ∷ 0 ∷ 0 ∷ []) ×
+    (fault_words (Some (record { cause = InvalidDol; about = about.Section 17 })) ≡ 24 ∷ 4 ∷ 17 ∷ 0 ∷ [])
+fault-slots = (refl, refl, refl, refl, refl, refl)
 
 -- windows: "three slots of 64 bits, start, length and position"
 

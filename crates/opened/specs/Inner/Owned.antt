@@ -1,0 +1,26 @@
+-- The regions that the used ones are of, by a table, where it ends, and the program's own region. Assumes nothing: these are definitions.
+use Rattle.std.specs.Prelude.{ℕ, not, List, ◌∷◌, map, take, Option, slice_index_or}
+use Rattle.std.specs.List.{position_from}
+use Rattle.tree.specs.Table.{nodes_of}
+use Rattle.space.specs.declared.region.DiscRegion.{DiscRegion}
+use Rattle.space.specs.Used.{no_region}
+use Rattle.space.specs.Layout.{disjoint}
+use Rattle.opened.specs.Opening.{region_of}
+use Rattle.opened.specs.declared.conflicts.Layout.{Layout}
+
+unfoldable pub owned_in : List ℕ → ℕ → DiscRegion → List DiscRegion
+owned_in tab t own = record { offset = 0; size = t } ∷ own ∷ map region_of (nodes_of tab)
+
+abbrev pub regions_of : Layout → List DiscRegion
+regions_of l = owned_in l.table l.table_end l.own
+
+-- region i, and those before it
+abbrev pub region_at : Layout → ℕ → DiscRegion
+region_at l i = slice_index_or (regions_of l) i no_region
+
+abbrev pub regions_before : Layout → ℕ → List DiscRegion
+regions_before l i = take i (regions_of l)
+
+-- the first of those before region i that shares a byte with it
+abbrev pub shared_with : Layout → ℕ → Option ℕ
+shared_with l i = position_from (λ x. not (disjoint x (region_at l i))) 0 (regions_before l i)
