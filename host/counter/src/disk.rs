@@ -36,8 +36,6 @@ const AT_ONCE: u64 = 16 << 20;
 /// A disk writes at least so many bytes at once, or none of them.
 const SECTOR: usize = 0x200;
 
-const FULL: i32 = 28;
-
 /// Whether an error says that there is no room left.
 pub fn is_full(error: &io::Error) -> bool {
     matches!(error.kind(), io::ErrorKind::StorageFull | io::ErrorKind::QuotaExceeded)
@@ -229,7 +227,7 @@ fn step() -> io::Result<()> {
     let fails = FAILS.get_or_init(|| env::var("COUNTER_FULL_FROM").ok()?.parse().ok());
     let count = STEPS.fetch_add(1, Ordering::SeqCst) + 1;
     match fails.is_some_and(|from| from <= count) {
-        true => Err(io::Error::from_raw_os_error(FULL)),
+        true => Err(io::ErrorKind::StorageFull.into()),
         false => Ok(()),
     }
 }

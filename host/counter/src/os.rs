@@ -282,3 +282,29 @@ impl Drop for Mapping {
         }
     }
 }
+
+#[cfg(test)]
+mod tests {
+    use super::*;
+    use crate::headers::{hold, of_c};
+
+    #[test]
+    fn the_numbers_are_the_systems() {
+        let headers = ["errno.h", "fcntl.h", "linux/falloc.h", "stdio.h", "sys/mman.h", "unistd.h"];
+        hold(
+            &headers,
+            &of_c!(PROT_READ PROT_WRITE MAP_SHARED MAP_PRIVATE MAP_ANONYMOUS MAP_NORESERVE MAP_FIXED MS_SYNC
+                MADV_DONTNEED MFD_CLOEXEC AT_FDCWD RENAME_NOREPLACE ENOSYS EINVAL ESPIPE EROFS O_NONBLOCK),
+        );
+        const HOLE: &str = "FALLOC_FL_PUNCH_HOLE | FALLOC_FL_KEEP_SIZE";
+        const WAIT: &str =
+            "SYNC_FILE_RANGE_WAIT_BEFORE | SYNC_FILE_RANGE_WRITE | SYNC_FILE_RANGE_WAIT_AFTER";
+        let facts = [
+            (HOLE, PUNCH_HOLE_KEEP_SIZE.into()),
+            (WAIT, WRITE_AND_WAIT.into()),
+            ("R_OK | W_OK | X_OK", READ_WRITE_SEARCH.into()),
+            ("sizeof(off_t)", size_of::<i64>() as i128),
+        ];
+        hold(&headers, &facts);
+    }
+}

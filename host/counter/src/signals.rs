@@ -330,3 +330,25 @@ pub fn end_by(number: i32) -> i32 {
 pub fn lose_page() {
     unsafe { raise(SIGBUS) };
 }
+
+#[cfg(test)]
+mod tests {
+    use super::*;
+    use crate::headers::{hold, of_c};
+
+    #[test]
+    fn the_numbers_are_the_systems() {
+        hold(
+            &["signal.h"],
+            &of_c!(SIGHUP SIGINT SIGQUIT SIGBUS SIGTERM SIGXFSZ SIGPIPE SIG_BLOCK SIG_UNBLOCK),
+        );
+        let harmless = ["CHLD", "CONT", "STOP", "TSTP", "TTIN", "TTOU", "URG", "WINCH"]
+            .map(|name| format!("SIG{name}"));
+        let harmless = harmless.iter().zip(HARMLESS).map(|(name, is)| (name.as_str(), is.into()));
+        let mut facts: Vec<(&str, i128)> = harmless.collect();
+        facts.push(("(size_t)SIG_DFL", SIG_DFL as i128));
+        facts.push(("(size_t)SIG_IGN", SIG_IGN as i128));
+        facts.push(("sizeof(sigset_t)", size_of::<Set>() as i128));
+        hold(&["signal.h"], &facts);
+    }
+}
