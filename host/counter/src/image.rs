@@ -5,7 +5,7 @@ use crate::failure::{BUSY, CUT, Failure, INPUT_OUTPUT, NO_INPUT, NOT_ALLOWED, Ou
 use crate::journal;
 use crate::names;
 use crate::os::{self, Access, Mapping};
-use counter_sys::Memory;
+use counter_sys::{MOST_TABLE, MOST_WORDS, Memory};
 use std::fs::{self, File, Metadata, OpenOptions, TryLockError};
 use std::io;
 use std::ops::Range;
@@ -274,7 +274,7 @@ pub struct Desk {
 
 impl Desk {
     pub fn new() -> Desk {
-        Desk { words: vec![0; 65_544], bytes: vec![0; 2_097_152] }
+        Desk { words: vec![0; MOST_WORDS], bytes: vec![0; MOST_TABLE] }
     }
 
     pub fn lend(&mut self) -> Memory<'_> {

@@ -10,6 +10,7 @@ use crate::change::{Change, HEADER};
 use crate::disk::{self, On};
 use crate::sum;
 use crate::text::one_line;
+use counter_sys::MOST_TABLE;
 use std::ffi::OsString;
 use std::fs::{self, File, Metadata};
 use std::io;
@@ -24,7 +25,7 @@ const VERSION: u64 = 4;
 const COPIED: &[u8; 8] = b"copied!\n";
 
 /// No journal is longer: two tables of the largest size, a header, and a few numbers.
-const LONGEST: u64 = 2 * (2 << 20) + (64 << 10);
+const LONGEST: u64 = 2 * MOST_TABLE as u64 + (64 << 10);
 
 /// Which file the journal belongs to. The disk's number is left out: it may be another after a
 /// restart.

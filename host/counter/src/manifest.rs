@@ -13,6 +13,7 @@ use crate::program::Program;
 use crate::progress::Progress;
 use crate::save::{save, vacant};
 use crate::sha256::{self, LANES, Sha256, Sum, hex};
+use crate::stored::Departure;
 use crate::text::{counted, one_line};
 use counter_sys::{HEADER_SIZE, Region};
 use std::fs::{self, File};
@@ -382,7 +383,7 @@ impl Reader {
             bytes: 0,
             disc_end: 0,
             fst: (0, 0),
-            departure: None,
+            departure: Departure::None,
             program: None,
             free: Vec::new(),
             records: vec![root],
