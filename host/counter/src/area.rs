@@ -1,5 +1,5 @@
-//! The parts of an image that are no files, held against what they were: the header field by field, the system
-//! area, the table, the program, and what lies behind the disc end.
+//! The parts of an image that are no files, held against what they were: the header field by field, the
+//! system area, the table, the program, and what lies behind the disc end.
 
 use crate::given::Given;
 use crate::header::{FIELDS, FST_SIZE, Field};
@@ -182,8 +182,8 @@ pub fn program(old: &Layout, new: &Layout, given: &Given, first: &First) -> Opti
     })
 }
 
-/// The disc end, and what lies behind it. Leave for the fields that make the disc end is leave for another one,
-/// and for nothing that lies behind both.
+/// The disc end, and what lies behind it. Leave for the fields that make the disc end is leave for another
+/// one, and for nothing that lies behind both.
 pub fn tail(old: &Layout, new: &Layout, given: &Given, first: &First) -> Area {
     const NAME: &str = "disc end and all behind it";
     let end = u64::from(old.disc_end.max(new.disc_end));

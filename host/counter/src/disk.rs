@@ -1,6 +1,6 @@
 //! The writes and syncs of an edit, of its journal, its clip and its record: all of them pass here, so that
-//! a test can log them, or let one fail. (The proved call writes through a mapping; what it changed is found by
-//! comparing.)
+//! a test can log them, or let one fail. (The proved call writes through a mapping; what it changed is
+//! found by comparing.)
 //!
 //! COUNTER_LOG_WRITES names the file of the log. COUNTER_FULL_FROM=n lets the n-th step that takes room,
 //! and all after it, fail as on a full disk; COUNTER_ASSUME_ROOM lets an edit begin on a disk that is

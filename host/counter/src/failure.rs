@@ -39,7 +39,8 @@ pub enum Failure {
     Pipe,
 }
 
-/// A table that an edit would write: its size before and after, the maximum, and by how many bytes it is above.
+/// A table that an edit would write: its size before and after, the maximum, and by how many bytes it is
+/// above.
 #[derive(Debug, Clone, Copy)]
 pub struct Above {
     pub before: u64,

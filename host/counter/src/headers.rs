@@ -1,5 +1,5 @@
-//! The system's numbers and layouts are written out, since the program has std alone. The tests of the modules that
-//! have them hold them to the system's headers here, by its C compiler.
+//! The system's numbers and layouts are written out, since the program has std alone. The tests of the
+//! modules that have them hold them to the system's headers here, by its C compiler.
 
 use std::io::Write;
 use std::process::{Command, Stdio};

@@ -44,8 +44,8 @@ impl Owner {
     }
 }
 
-/// The totals record that goes with an edit: its file, the text in it (none if there is no file), and the text
-/// that it gets.
+/// The totals record that goes with an edit: its file, the text in it (none if there is no file), and the
+/// text that it gets.
 #[derive(Debug, Clone, PartialEq, Eq)]
 pub struct Totals {
     pub file: PathBuf,
@@ -114,8 +114,8 @@ pub fn is_there(image: &Path) -> bool {
     fs::metadata(beside(image)).is_ok_and(|told| told.is_file())
 }
 
-/// Whether something else is there, which is no journal and was never one: a folder, a special file, a link that
-/// leads nowhere.
+/// Whether something else is there, which is no journal and was never one: a folder, a special file, a link
+/// that leads nowhere.
 pub fn has_no_place(image: &Path) -> bool {
     fs::symlink_metadata(beside(image)).is_ok() && !is_there(image)
 }
@@ -137,8 +137,8 @@ fn told(path: &Path) -> io::Result<Option<Metadata>> {
     }
 }
 
-/// Why nobody knows whether an edit of the image was cut, where the disk does not tell. A folder that may not be
-/// looked into holds an image that was reached by other ways, and no edit of it could begin.
+/// Why nobody knows whether an edit of the image was cut, where the disk does not tell. A folder that may
+/// not be looked into holds an image that was reached by other ways, and no edit of it could begin.
 pub fn untold(image: &Path) -> Option<io::Error> {
     told(&beside(image)).err().filter(|e| e.kind() != io::ErrorKind::PermissionDenied)
 }
@@ -177,8 +177,8 @@ impl Journal {
         Ok(Journal { image, path, file, end, plan, copied: None, spoiled: false, clip })
     }
 
-    /// The journal beside the image: None, a whole one, or what is wrong with it; an error where the disk does not
-    /// tell whether there is one. For whoever has the image alone.
+    /// The journal beside the image: None, a whole one, or what is wrong with it; an error where the disk
+    /// does not tell whether there is one. For whoever has the image alone.
     pub fn find(image: &Path) -> io::Result<Option<Result<Journal, String>>> {
         let path = beside(image);
         // One that was cut before it had its name: the image was not touched then.
@@ -215,8 +215,8 @@ impl Journal {
         Ok(())
     }
 
-    /// On an error it is still there. A folder that cannot be synced is none: if a power cut brings the journal back,
-    /// it is found then like any other.
+    /// On an error it is still there. A folder that cannot be synced is none: if a power cut brings the
+    /// journal back, it is found then like any other.
     pub fn remove(&self) -> io::Result<()> {
         match disk::remove(On::Journal, &self.path) {
             // Somebody was faster.

@@ -113,8 +113,8 @@ fn bytes(number: u64) -> String {
 
 // Refusals --------------------------------------------------------------------------------
 
-/// The refusal with 26 of an edit, with what it is about: the sizes of the table as it is, of the same written anew,
-/// and of the one that the edit would write.
+/// The refusal with 26 of an edit, with what it is about: the sizes of the table as it is, of the same
+/// written anew, and of the one that the edit would write.
 pub fn explained(
     refusal: Failure,
     (table, rewritten, after): (u64, u64, u64),

@@ -1,7 +1,8 @@
 //! Names and paths: their bytes in an image, and the text that people read and type.
 //!
-//! An image has them in Shift-JIS (CP932). How a text is cut into units, and which of them a name may hold, the
-//! library tells; the characters are those of the system's iconv. Nothing else in the program knows the code.
+//! An image has them in Shift-JIS (CP932). How a text is cut into units, and which of them a name may hold,
+//! the library tells; the characters are those of the system's iconv. Nothing else in the program knows the
+//! code.
 
 use crate::text::{is_obeyed, one_line, wide};
 use counter_sys as counter;
@@ -370,8 +371,8 @@ pub fn for_terminal(words: &str) -> String {
     out
 }
 
-/// The name of a file of the system, for what is said: what of it is no UTF-8 or would be obeyed is escaped, and
-/// on a terminal without UTF-8 every byte from 0x80 on.
+/// The name of a file of the system, for what is said: what of it is no UTF-8 or would be obeyed is
+/// escaped, and on a terminal without UTF-8 every byte from 0x80 on.
 pub fn file(name: impl AsRef<OsStr>) -> String {
     let mut out = String::new();
     for chunk in name.as_ref().as_bytes().utf8_chunks() {
@@ -416,8 +417,8 @@ struct Taken {
 }
 
 impl Taken {
-    /// Takes what was typed as it is. Of a lead byte that was given as `\xHH` it is the trail byte where it can
-    /// be; but a character from 0x80 on is one by itself, and not half of it is meant.
+    /// Takes what was typed as it is. Of a lead byte that was given as `\xHH` it is the trail byte where it
+    /// can be; but a character from 0x80 on is one by itself, and not half of it is meant.
     fn typed(&mut self, bytes: &[u8]) -> Result<(), String> {
         if let Some(lead) = self.lead
             && bytes[0] >= 0x80

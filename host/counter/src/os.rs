@@ -230,8 +230,8 @@ pub fn punch(file: &File, at: u64, len: u64) -> io::Result<()> {
     }
 }
 
-/// Waits until the bytes of a part of a file have left the memory. That they are on the disk for good only a sync
-/// says; but an error that is told here is told nowhere else.
+/// Waits until the bytes of a part of a file have left the memory. That they are on the disk for good only
+/// a sync says; but an error that is told here is told nowhere else.
 pub fn write_out(file: &File, at: u64, len: u64) -> io::Result<()> {
     let fd = file.as_raw_fd();
     match answer(unsafe { sync_file_range(fd, at as i64, len as i64, WRITE_AND_WAIT) }) {

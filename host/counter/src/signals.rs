@@ -59,8 +59,8 @@ unsafe extern "C" {
 /// Those that people send.
 const SENT: [i32; 4] = [SIGHUP, SIGINT, SIGQUIT, SIGTERM];
 
-/// How far an edit is: nothing was written; nothing but free space, so that it can be given up; it is finished
-/// whatever comes; it is given up.
+/// How far an edit is: nothing was written; nothing but free space, so that it can be given up; it is
+/// finished whatever comes; it is given up.
 const READING: u8 = 0;
 const FREE: u8 = 1;
 const FOR_GOOD: u8 = 2;
@@ -110,8 +110,8 @@ fn tell(words: Arguments) {
     unsafe { write(2, text.as_ptr(), text.len() - left) };
 }
 
-/// While the image is written or something else that must be whole is done, the signal is noted, and what becomes
-/// of it is said at once. Otherwise it ends the program.
+/// While the image is written or something else that must be whole is done, the signal is noted, and what
+/// becomes of it is said at once. Otherwise it ends the program.
 extern "C" fn caught(number: i32) {
     if STAGE.load(Ordering::SeqCst) != READING {
         noted(number);
@@ -175,8 +175,8 @@ fn stop(number: i32) {
     }
 }
 
-/// A mapped page could not be had, and there is nothing to go back to. In the midst of an edit the
-/// program starts anew as `recover`, which writes without a mapping. Before there is a journal nothing was written.
+/// A mapped page could not be had, and there is nothing to go back to. In the midst of an edit the program
+/// starts anew as `recover`, which writes without a mapping. Before there is a journal nothing was written.
 extern "C" fn cut_off(_: i32) {
     let rescue = RESCUE.load(Ordering::SeqCst);
     let writing = match STAGE.load(Ordering::SeqCst) {
@@ -217,9 +217,9 @@ pub fn catch_signals() {
     }
 }
 
-/// From here on the image is written: every signal waits for the end, but for the one that a failing
-/// page sends. Those that people send are answered. An edit that writes to free space first can be given up until
-/// `no_way_back`; one that a signal came before is given up at once.
+/// From here on the image is written: every signal waits for the end, but for the one that a failing page
+/// sends. Those that people send are answered. An edit that writes to free space first can be given up
+/// until `no_way_back`; one that a signal came before is given up at once.
 pub fn begin_writing(free_space_first: bool) {
     let _ = BEGUN.set(Instant::now());
     BEFORE.fetch_add(now(), Ordering::SeqCst);

@@ -1,5 +1,6 @@
-//! More words for a refusal of opening. The library tells which entry it is about, which regions or which section
-//! (`fault`); what stands there is read here, to be told. Where it tells no such trouble, nothing is said.
+//! More words for a refusal of opening. The library tells which entry it is about, which regions or which
+//! section (`fault`); what stands there is read here, to be told. Where it tells no such trouble, nothing
+//! is said.
 
 use crate::header::{DOL_OFFSET, Header};
 use crate::names;
@@ -45,7 +46,8 @@ fn form(image: &[u8]) -> Option<String> {
     })
 }
 
-/// What is to be known of an NKit image, whose header looks like any other: files are moved and bytes left out.
+/// What is to be known of an NKit image, whose header looks like any other: files are moved and bytes left
+/// out.
 pub fn nkit(image: &[u8]) -> Option<&'static str> {
     image.get(0x200..)?.starts_with(b"NKIT").then_some(
         "this is an NKit image: files are moved in it and bytes left out. NKit's `ConvertToISO IMAGE` makes the \
