@@ -184,12 +184,17 @@ impl<'a> Spoiled<'a> {
     }
 
     fn shared(&self, a: Owner, b: Owner) -> Option<String> {
-        let mut both = [self.region(a)?, self.region(b)?];
-        both.sort();
-        if [a, b].contains(&Owner::Table) && [a, b].contains(&Owner::Program) {
+        let both = match (a, b) {
             // It may lie before the table, so what it lies over there is told.
-            both = [self.before(self.program_offset()), self.region(Owner::Program)?];
-        }
+            (Owner::Table, Owner::Program) | (Owner::Program, Owner::Table) => {
+                [self.before(self.program_offset()), self.region(Owner::Program)?]
+            }
+            _ => {
+                let mut both = [self.region(a)?, self.region(b)?];
+                both.sort();
+                both
+            }
+        };
         let told = both.map(|(start, end, name)| format!("{name} {start:#x} to {end:#x}"));
         Some(told.join(" and "))
     }
