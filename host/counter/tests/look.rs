@@ -243,6 +243,18 @@ fn check_names_number_and_cause() {
 }
 
 #[test]
+fn a_folder_that_is_too_deep_is_told() {
+    let temp = Temp::new();
+    // Entries 1 to 64 are folders, each in the one before it; now 65 is one too.
+    let mut bytes = fs::read(long_names(&temp, 100)).unwrap();
+    put(&mut bytes, 0x440 + 12 * 65, 0x0100_0000);
+    put(&mut bytes, 0x440 + 12 * 65 + 8, 100);
+    let run = on("check", &temp.write("deeper.iso", &bytes), &[]);
+    assert_eq!(run.status, 9);
+    assert!(run.err.contains("(entry 65 is a folder deeper than 64 levels)"), "{}", run.err);
+}
+
+#[test]
 fn check_finds_overlaps_and_accepts_what_is_sound() {
     let temp = Temp::new();
     let mut bytes = small_master();
@@ -951,38 +963,10 @@ fn help_documents_commands_statuses_and_safety() {
         assert!(run_help.out.contains(&format!("counter {command} ")), "{command}");
         assert!(run(&["help", command]).out.contains(&format!("counter {command} ")));
     }
-    // The causes, word for word and in their order.
-    let causes = [
-        "header field past the image",
-        "Wii magic",
-        "not GameCube magic",
-        "FST offset below 0x440, disc end above 2^32 - 1, table end past it, or image shorter than it",
-        "entry past the table",
-        "kind above 1",
-        "root a file",
-        "last text unended",
-        "limit or memory",
-        "next at or before its entry, past the count or past its parent's next",
-        "name offset at or past the texts' end",
-        "name byte",
-        "unsafe or empty name",
-        "used regions overlap or pass the disc end",
-        "no such entry",
-        "file wanted",
-        "directory wanted",
-        "not found",
-        "name exists",
-        "move overlaps itself",
-        "no space",
-        "alignment no power of two",
-        "seek",
-        "DOL header past the image, or a sum above 2^32 - 1",
-        "used bytes or edit count would leave 0 to 2^32 - 1",
-        "new table above the maximum",
-    ];
-    assert!(run_help.out.contains(&format!("\n      1 to {}: refused", causes.len())));
-    for (i, cause) in causes.iter().enumerate() {
-        assert!(run_help.out.contains(&format!("{:2}  refused: {cause}\n", i + 1)), "{cause}");
+    // The causes; c.rs has their words.
+    assert!(run_help.out.contains("\n      1 to 26: refused"));
+    for number in 1..=26 {
+        assert!(run_help.out.contains(&format!("\n  {number:2}  refused: ")), "{number}");
     }
     for status in [64, 65, 66, 70, 73, 74, 75, 77] {
         assert!(run_help.out.contains(&format!("\n  {status}  ")), "{status}");
@@ -1455,6 +1439,13 @@ fn names_without_end_do_not_eat_the_machine() {
     assert_eq!(on("find", &image, &["n"]).status, 18);
     // Not shared any more, the names would not fit.
     assert_eq!(on("rewrite", &image, &[]).status, 9);
+    let note =
+        "note: a rewrite, and every edit that writes the table, is refused 9 (limit or memory): ";
+    let check = done("check", &image, &[]);
+    assert!(check.contains(note), "{check}");
+    let told = json("check", &image, &[]);
+    assert_eq!(told.at("rewrite_alters_at"), &Json::Null);
+    assert_eq!(told.at("rewrite_refused").number(), 9);
     for args in [&["tree"][..], &["list", "--json"]] {
         let run = on(args[0], &image, &args[1..]);
         assert_eq!(run.status, 65, "{args:?}");

@@ -110,6 +110,20 @@ pub const DOL_WORDS: usize = 57;
 /// Bytes of a disc header.
 pub const HEADER_SIZE: usize = 0x440;
 
+/// Bytes of a cluster.
+pub const CLUSTER_SIZE: u32 = 0x8000;
+
+/// Limits, as counter.h has them: an image with more does not open, and no edit makes one.
+pub const MOST_ENTRIES: usize = 16_384;
+pub const MOST_TEXT: usize = 1_048_576;
+pub const MOST_LEVELS: usize = 64;
+pub const MOST_PATH: usize = 1_024;
+
+/// What an image within them wants to be lent at most.
+pub const MOST_REGIONS: usize = MOST_ENTRIES + 1;
+pub const MOST_WORDS: usize = 4 * (MOST_ENTRIES + 2);
+pub const MOST_TABLE: usize = 12 * MOST_ENTRIES + MOST_TEXT;
+
 /// A call of a C function: a slice that it reads (`in`) or is lent (`mut`) goes in as a pointer and a
 /// length, a number or slots of fixed length (`=`) as they are.
 #[macro_export]
@@ -495,4 +509,85 @@ pub fn rewrite(image: &mut [u8], memory: &mut Memory, record: &mut Record) -> An
     record.through(|r| unsafe {
         call!(counter_rewrite(mut image, mut memory.words, mut memory.bytes, = r))
     })
+}
+
+// What is wrong, names, the table anew ------------------------------------------------------
+
+/// What a used region holds.
+#[derive(Debug, Clone, Copy, PartialEq, Eq)]
+pub enum Owner {
+    /// The bytes up to the table's end.
+    Table,
+    Program,
+    Entry(u32),
+}
+
+/// What a refusal of opening is about.
+#[derive(Debug, Clone, Copy, PartialEq, Eq)]
+pub enum About {
+    /// The image; there is nothing more to tell.
+    Image,
+    Entry(u32),
+    /// Two regions that share a byte.
+    Shared(Owner, Owner),
+    /// One that passes the disc end.
+    PastEnd(Owner),
+    /// 0 to 6 text, 7 to 17 data.
+    Section(u32),
+}
+
+#[derive(Debug, Clone, Copy, PartialEq, Eq)]
+pub struct Fault {
+    pub number: u32,
+    pub about: About,
+}
+
+fn owner(number: u32) -> Owner {
+    match number {
+        0 => Owner::Table,
+        u32::MAX => Owner::Program,
+        entry => Owner::Entry(entry),
+    }
+}
+
+/// Why the image does not open, and what that is about; None where it opens.
+pub fn fault(image: &[u8], words: &mut [u32]) -> Option<Fault> {
+    let mut answer = [0; 4];
+    unsafe { call!(counter_fault(in image, mut words, = &mut answer)) };
+    let [number, what, first, second] = answer;
+    let about = match what {
+        1 => About::Entry(first),
+        2 => About::Shared(owner(first), owner(second)),
+        3 => About::PastEnd(owner(first)),
+        4 => About::Section(first),
+        _ => About::Image,
+    };
+    (number != 0).then_some(Fault { number, about })
+}
+
+/// The table that a rewrite of the image's tree writes, in front of `table`; the answer is its length.
+pub fn table_anew(image: &[u8], words: &mut [u32], table: &mut [u8]) -> Answer<usize> {
+    let mut length = [0; 1];
+    told(unsafe { call!(counter_table_anew(in image, mut words, mut table, = &mut length)) })?;
+    Ok(length[0] as usize)
+}
+
+/// Of the first unit its length (0 where there is none, 1 or 2), and what a name is refused for by it: 0,
+/// 12 or 13.
+pub fn unit(text: &[u8]) -> (usize, u32) {
+    let mut answer = [0; 2];
+    unsafe { call!(counter_unit(in text, = &mut answer)) };
+    (answer[0] as usize, answer[1])
+}
+
+/// The length of a path's first component.
+pub fn component(path: &[u8]) -> usize {
+    let mut length = [0; 1];
+    unsafe { call!(counter_component(in path, = &mut length)) };
+    length[0] as usize
+}
+
+/// What a name is refused for at opening: 0, 12 or 13.
+pub fn name(name: &[u8]) -> u32 {
+    unsafe { call!(counter_name(in name)) }
 }
