@@ -252,24 +252,4 @@ unsafe extern "C" {
         bytes_len: usize,
         record: *mut [u32; 3],
     ) -> u32;
-
-    pub fn counter_fault(
-        image: *const u8,
-        image_len: usize,
-        words: *mut u32,
-        words_len: usize,
-        fault: *mut [u32; 4],
-    ) -> u32;
-    pub fn counter_table_anew(
-        image: *const u8,
-        image_len: usize,
-        words: *mut u32,
-        words_len: usize,
-        table: *mut u8,
-        table_len: usize,
-        length: *mut [u32; 1],
-    ) -> u32;
-    pub fn counter_unit(text: *const u8, text_len: usize, unit: *mut [u32; 2]) -> u32;
-    pub fn counter_component(path: *const u8, path_len: usize, length: *mut [u64; 1]) -> u32;
-    pub fn counter_name(name: *const u8, name_len: usize) -> u32;
 }
