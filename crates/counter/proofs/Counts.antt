@@ -17,7 +17,7 @@ use Rattle.space.specs.declared.region.DiscRegion.{DiscRegion}
 use Rattle.space.specs.Free.{join, runs, free_regions}
 use Rattle.space.specs.Listing.{rows_of, listing_of}
 use Rattle.opened.specs.Opening.{opening, free_space_of}
-use Rattle.opened.specs.Answers.{behind}
+use Rattle.opened.specs.Answers.{answer_behind}
 use Rattle.disc.specs.Calls.{free_answer}
 
 join-count : (i : ℕ) (rs : List DiscRegion) → length (join i rs) ≤ suc (length rs)
@@ -53,7 +53,7 @@ module _ (row : DiscRegion → List ℕ) (image : List ℕ) (words room n : ℕ)
   counted true m e = cc
   counted false m e = cc
 
-  go : (v : Verdict) → opening image words ≡ v → behind v Err (listing_of row (free_space_of image) room) ≡ Ok n → n < 2 ^ 32
+  go : (v : Verdict) → opening image words ≡ v → answer_behind v Err (listing_of row (free_space_of image) room) ≡ Ok n → n < 2 ^ 32
   go (Ok tt) o e =
       let m = counted (ltb room (length (rows_of row (free_space_of image)))) (length (free_space_of image)) e in
       omega (arith, m, small-end o, free-count image)

@@ -15,12 +15,12 @@ use Rattle.header.specs.declared.fields.Field.{Field}
 use Rattle.header.specs.declared.value.DiscHeader.{DiscHeader}
 use Rattle.header.specs.Fields.{fields, game_code_field, maker_code_field, unused00a_field, game_name_field, unused408_field}
 use Rattle.header.specs.Inner.Judged.{field_at, nth}
-use Rattle.header.specs.Header.{bytes_of, header_of, header_read, field_bytes, put_header, write_verdict, image_with_header}
+use Rattle.header.specs.Header.{bytes_of, header_of, header_answer, field_bytes, put_header, write_verdict, image_with_header}
 use Rattle.header.specs.Verdicts.{header_verdict}
 use Rattle.header.specs.Laws.FieldTests.{header-passed}
 use Rattle.header.specs.Laws.Tiling.{fields-tile, fields-count, one_field}
 use Rattle.header.specs.Laws.RoundTrip.{Fills, length-put_fields, put_fields-in, write_read}
-use Rattle.counter.specs.Replies.{reply, accepts, refuses, number_told, verdict_reply}
+use Rattle.counter.specs.Replies.{reply, accepted_reply, refused_reply, number_told, verdict_reply}
 use Rattle.std.specs.Result.{result_and}
 
 module _ (image slots : List ℕ) (good : header_verdict image ≡ Ok tt) (bytes : AllBytes image) (room : length slots ≡ 0x440) where
@@ -60,20 +60,20 @@ module _ (image slots : List ℕ) (good : header_verdict image ≡ Ok tt) (bytes
       let t : length (take 0x440 image) ≡ 0x440 = length-take-le 0x440 image whole in
       ext_get_or 0 _ _ (l ∙ sym t) (λ i h. byte i (omega arith) ∙ sym (get_or-take 0x440 image i 0 (omega arith)))
 
-  back : reply (number_told (write_verdict slots)) (image_with_header (header_of image) slots) ≡ accepts (take 0x440 image)
+  back : reply (number_told (write_verdict slots)) (image_with_header (header_of image) slots) ≡ accepted_reply (take 0x440 image)
   back = rw (le-ltb (length slots) 0x440 (omega arith), taken) refl
 
 module _ (image slots : List ℕ) where
-  pub header-written : (h : DiscHeader) → Ok h ≡ header_read image → AllBytes image → length slots ≡ 0x440 → reply (number_told (write_verdict slots)) (image_with_header h slots) ≡ verdict_reply slots (header_verdict image) (take 0x440 image)
+  pub header-written : (h : DiscHeader) → Ok h ≡ header_answer image → AllBytes image → length slots ≡ 0x440 → reply (number_told (write_verdict slots)) (image_with_header h slots) ≡ verdict_reply slots (header_verdict image) (take 0x440 image)
   header-written h e bytes room = go (header_verdict image) refl e
     where
       go : (v : Verdict) → header_verdict image ≡ v → Ok h ≡ result_and v (Ok (header_of image)) → reply (number_told (write_verdict slots)) (image_with_header h slots) ≡ verdict_reply slots v (take 0x440 image)
       go (Ok _) g r = let k : h ≡ header_of image = cc in rw (k, back image slots g bytes room)
       go (Err c) g r = cc
 
-  pub header_refused : (c : Refusal) → Err c ≡ header_read image → refuses slots c ≡ verdict_reply slots (header_verdict image) (take 0x440 image)
+  pub header_refused : (c : Refusal) → Err c ≡ header_answer image → refused_reply slots c ≡ verdict_reply slots (header_verdict image) (take 0x440 image)
   header_refused c e = go (header_verdict image) e
     where
-      go : (v : Verdict) → Err c ≡ result_and v (Ok (header_of image)) → refuses slots c ≡ verdict_reply slots v (take 0x440 image)
+      go : (v : Verdict) → Err c ≡ result_and v (Ok (header_of image)) → refused_reply slots c ≡ verdict_reply slots v (take 0x440 image)
       go (Ok _) r = cc
       go (Err d) r = let k : c ≡ d = cc in rw k

@@ -4,7 +4,7 @@
 use Rattle.std.specs.Prelude.{Option, Some, None, Result, Ok, Err, ℕ, ◌-◌, ◌^◌, List, [], ◌∷◌, ◌++◌, replicate, slice_index}
 use Rattle.refusal.specs.declared.Refusal.{Refusal}
 use Rattle.refusal.specs.Refusal.{Verdict, number_of}
-use Rattle.opened.specs.declared.summary.Disc.{Disc}
+use Rattle.opened.specs.declared.summary.Summary.{Summary}
 use Rattle.opened.specs.declared.faults.Owner.{Owner}
 use Rattle.opened.specs.declared.faults.Owner.TheVariants as owner
 use Rattle.opened.specs.declared.faults.About.{About}
@@ -22,7 +22,7 @@ use Rattle.disc.specs.declared.answers.DolFile.{DolFile}
 use Rattle.space.specs.declared.totals.Totals.{Totals}
 use Rattle.executable.specs.Program.{Program}
 use Rattle.window.specs.declared.Window.{Window}
-use Rattle.edits.specs.Edits.{numbered_as}
+use Rattle.edit_rules.specs.Edits.{number_behind}
 
 -- the number that a call returns, and its slots afterwards
 pub record Reply : Type 0 where
@@ -32,12 +32,12 @@ pub record Reply : Type 0 where
 abbrev pub reply : ℕ → List ℕ → Reply
 reply n slots = record { number = n; slots = slots }
 
-abbrev pub accepts : List ℕ → Reply
-accepts ws = reply 0 ws
+abbrev pub accepted_reply : List ℕ → Reply
+accepted_reply ws = reply 0 ws
 
 -- the slots stay as they were
-abbrev pub refuses : List ℕ → Refusal → Reply
-refuses before c = reply (number_of c) before
+abbrev pub refused_reply : List ℕ → Refusal → Reply
+refused_reply before c = reply (number_of c) before
 
 -- ---- a value or a refusal
 
@@ -50,16 +50,16 @@ abbrev pub slots_told : {A S : Type 0} → (A → S) → S → Result A Refusal 
 slots_told words before (Ok a) = words a
 slots_told words before (Err c) = before
 
-abbrev pub replied : {A : Type 0} → (A → List ℕ) → List ℕ → Result A Refusal → Reply
-replied words before a = reply (number_told a) (slots_told words before a)
+abbrev pub reply_of : {A : Type 0} → (A → List ℕ) → List ℕ → Result A Refusal → Reply
+reply_of words before a = reply (number_told a) (slots_told words before a)
 
 -- the same where the words stand beside the verdict
 abbrev pub verdict_reply : List ℕ → Verdict → List ℕ → Reply
-verdict_reply before v ws = replied (λ _. ws) before v
+verdict_reply before v ws = reply_of (λ _. ws) before v
 
 -- ---- the words of each value, in the order of its slots
 
-abbrev pub disc_words : Disc → List ℕ
+abbrev pub disc_words : Summary → List ℕ
 disc_words d = d.fst_offset ∷ d.fst_size ∷ d.disc_end ∷ d.entries ∷ d.used ∷ []
 
 abbrev pub disc_totals_words : DiscTotals → List ℕ
@@ -69,8 +69,8 @@ abbrev pub region_words : DiscRegion → List ℕ
 region_words r = r.offset ∷ r.size ∷ []
 
 -- how many regions, a size, the length of a text or of a table, an entry's number
-abbrev pub one : ℕ → List ℕ
-one n = n ∷ []
+abbrev pub one_word : ℕ → List ℕ
+one_word n = n ∷ []
 
 -- a unit's length, and 0 or what it is refused for in a name
 abbrev pub unit_words : FirstUnit → List ℕ
@@ -121,25 +121,25 @@ fault_words (Some f) = number_of f.cause ∷ about_words f.about
 
 -- a program has at least 0xE4 bytes, so size 0 is none
 unfoldable pub program_reply : List ℕ → Program → Reply
-program_reply before (Ok (Some r)) = accepts (region_words r)
-program_reply before (Ok None) = accepts (0 ∷ 0 ∷ [])
-program_reply before (Err c) = refuses before c
+program_reply before (Ok (Some r)) = accepted_reply (region_words r)
+program_reply before (Ok None) = accepted_reply (0 ∷ 0 ∷ [])
+program_reply before (Err c) = refused_reply before c
 
 unfoldable pub found_reply : List ℕ → Found → Reply
-found_reply before (found.At k e) = accepts (entry_words k e)
-found_reply before (found.Refused c) = refuses before c
+found_reply before (found.At k e) = accepted_reply (entry_words k e)
+found_reply before (found.Refused c) = refused_reply before c
 
 -- the executable: the header's slots, and the window's
 abbrev pub dol_reply : List ℕ → Result DolFile Refusal → Reply
-dol_reply before a = replied (λ (f : DolFile). dol_words f.header) before a
+dol_reply before a = reply_of (λ (f : DolFile). dol_words f.header) before a
 
 abbrev pub dol_window_reply : List ℕ → Result DolFile Refusal → Reply
-dol_window_reply before a = replied (λ (f : DolFile). window_words f.window) before a
+dol_window_reply before a = reply_of (λ (f : DolFile). window_words f.window) before a
 
--- ---- the edits, for `Edited`: one that gives only that it is done, and one that gives an entry's number
+-- ---- the edits, for `IsEdited`: one that gives only that it is done, and one that gives an entry's number
 
-abbrev pub done : Verdict → ℕ → ℕ
-done v k = number_told v
+abbrev pub done_number : Verdict → ℕ → ℕ
+done_number v k = number_told v
 
-abbrev pub numbered : List ℕ → Verdict → ℕ → Reply
-numbered before v k = replied one before (numbered_as v k)
+abbrev pub entry_reply : List ℕ → Verdict → ℕ → Reply
+entry_reply before v k = reply_of one_word before (number_behind v k)

@@ -2,11 +2,11 @@
 // number and that memory as it was.
 ghost use Rattle.std.specs.Prelude.{◌≡◌, ℕ, List, []};
 ghost use Rattle.counter.specs.Replies.{number_told, slots_told};
-ghost use Rattle.counter.specs.Replies.{disc_words, disc_totals_words, region_words, one};
+ghost use Rattle.counter.specs.Replies.{disc_words, disc_totals_words, region_words, one_word};
 ghost use Rattle.counter.specs.Replies.{window_words, totals_words};
 
 use disc::DiscTotals;
-use opened::Disc;
+use opened::Summary;
 use refusal::Refusal;
 use space::{DiscRegion, Totals};
 use window::Window;
@@ -36,7 +36,7 @@ impl Value for () {
     ghost words = { λ _. [] };
 }
 
-impl Value for Disc {
+impl Value for Summary {
     ghost words = { disc_words };
 }
 
@@ -50,12 +50,12 @@ impl Value for DiscRegion {
 
 // A size, an entry's number, how many regions, or the length of a table.
 impl Value for u32 {
-    ghost words = { one };
+    ghost words = { one_word };
 }
 
 // The length of a text, or of a part of a path.
 impl Value for u64 {
-    ghost words = { one };
+    ghost words = { one_word };
 }
 
 impl Value for Window {

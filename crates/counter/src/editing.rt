@@ -1,8 +1,8 @@
 // The edits. The totals record is lent: used bytes, the largest free region's size, accepted edits.
-ghost use Rattle.edits.specs.Edits as edits;
-ghost use Rattle.edits.specs.Promise.{Edited, lent};
+ghost use Rattle.edit_rules.specs.Edits as edits;
+ghost use Rattle.edit_rules.specs.Promise.{IsEdited, loan};
 ghost use Rattle.edit.specs.Asked.{edit_of};
-ghost use Rattle.counter.specs.Replies.{reply, one, done, numbered};
+ghost use Rattle.counter.specs.Replies.{reply, one_word, done_number, entry_reply};
 
 use crate::answer::give;
 use edit::{Edit, Kind, NewEntry};
@@ -20,9 +20,9 @@ fn give_done(
     totals: &mut Totals,
     edit: Edit<'_>,
 ) -> u32
-    ensures { Edited done (edit_of edit.entry)
-        (lent image.old words.old bytes.old totals.old)
-        (lent image.new words.new bytes.new totals.new) result }
+    ensures { IsEdited done_number (edit_of edit.entry)
+        (loan image.old words.old bytes.old totals.old)
+        (loan image.new words.new bytes.new totals.new) result }
 {
     give(&mut (), edit::done(image, words, bytes, totals, edit))
 }
@@ -36,9 +36,9 @@ pub extern "C" fn counter_move_file(
     file: u32,
     offset: u32,
 ) -> u32
-    ensures { Edited done (edits.move_file file offset)
-        (lent image.old words.old bytes.old totals.old)
-        (lent image.new words.new bytes.new totals.new) result }
+    ensures { IsEdited done_number (edits.move_file file offset)
+        (loan image.old words.old bytes.old totals.old)
+        (loan image.new words.new bytes.new totals.new) result }
 {
     give_done(image, words, bytes, totals, Edit::Move { file, offset })
 }
@@ -52,9 +52,9 @@ pub extern "C" fn counter_resize_file(
     file: u32,
     size: u32,
 ) -> u32
-    ensures { Edited done (edits.resize_file file size)
-        (lent image.old words.old bytes.old totals.old)
-        (lent image.new words.new bytes.new totals.new) result }
+    ensures { IsEdited done_number (edits.resize_file file size)
+        (loan image.old words.old bytes.old totals.old)
+        (loan image.new words.new bytes.new totals.new) result }
 {
     give_done(image, words, bytes, totals, Edit::Resize { file, size })
 }
@@ -68,9 +68,9 @@ pub extern "C" fn counter_fill_file(
     file: u32,
     clip: &[u8],
 ) -> u32
-    ensures { Edited done (edits.fill_file file clip.now)
-        (lent image.old words.old bytes.old totals.old)
-        (lent image.new words.new bytes.new totals.new) result }
+    ensures { IsEdited done_number (edits.fill_file file clip.now)
+        (loan image.old words.old bytes.old totals.old)
+        (loan image.new words.new bytes.new totals.new) result }
 {
     give_done(image, words, bytes, totals, Edit::Fill { file, clip })
 }
@@ -82,9 +82,9 @@ pub extern "C" fn counter_rewrite(
     bytes: &mut [u8],
     totals: &mut Totals,
 ) -> u32
-    ensures { Edited done edits.rewrite
-        (lent image.old words.old bytes.old totals.old)
-        (lent image.new words.new bytes.new totals.new) result }
+    ensures { IsEdited done_number edits.rewrite
+        (loan image.old words.old bytes.old totals.old)
+        (loan image.new words.new bytes.new totals.new) result }
 {
     give_done(image, words, bytes, totals, Edit::Rewrite)
 }
@@ -99,9 +99,9 @@ fn give_entry(
     edit: Edit<'_>,
     answer: &mut u32,
 ) -> u32
-    ensures { Edited (numbered (one answer.old)) (edit_of edit.entry)
-        (lent image.old words.old bytes.old totals.old)
-        (lent image.new words.new bytes.new totals.new) (reply result (one answer.new)) }
+    ensures { IsEdited (entry_reply (one_word answer.old)) (edit_of edit.entry)
+        (loan image.old words.old bytes.old totals.old)
+        (loan image.new words.new bytes.new totals.new) (reply result (one_word answer.new)) }
 {
     give(answer, edit::run(image, words, bytes, totals, edit))
 }
@@ -116,9 +116,9 @@ pub extern "C" fn counter_insert_file(
     name: &[u8],
     answer: &mut u32,
 ) -> u32
-    ensures { Edited (numbered (one answer.old)) (edits.insert_file parent name.now)
-        (lent image.old words.old bytes.old totals.old)
-        (lent image.new words.new bytes.new totals.new) (reply result (one answer.new)) }
+    ensures { IsEdited (entry_reply (one_word answer.old)) (edits.insert_file parent name.now)
+        (loan image.old words.old bytes.old totals.old)
+        (loan image.new words.new bytes.new totals.new) (reply result (one_word answer.new)) }
 {
     let kind = Kind::File;
     let new = NewEntry { parent, kind, name };
@@ -135,9 +135,9 @@ pub extern "C" fn counter_insert_directory(
     name: &[u8],
     answer: &mut u32,
 ) -> u32
-    ensures { Edited (numbered (one answer.old)) (edits.insert_directory parent name.now)
-        (lent image.old words.old bytes.old totals.old)
-        (lent image.new words.new bytes.new totals.new) (reply result (one answer.new)) }
+    ensures { IsEdited (entry_reply (one_word answer.old)) (edits.insert_directory parent name.now)
+        (loan image.old words.old bytes.old totals.old)
+        (loan image.new words.new bytes.new totals.new) (reply result (one_word answer.new)) }
 {
     let kind = Kind::Directory;
     let new = NewEntry { parent, kind, name };
@@ -154,9 +154,9 @@ pub extern "C" fn counter_make_directories(
     path: &[u8],
     answer: &mut u32,
 ) -> u32
-    ensures { Edited (numbered (one answer.old)) (edits.make_directories start path.now)
-        (lent image.old words.old bytes.old totals.old)
-        (lent image.new words.new bytes.new totals.new) (reply result (one answer.new)) }
+    ensures { IsEdited (entry_reply (one_word answer.old)) (edits.make_directories start path.now)
+        (loan image.old words.old bytes.old totals.old)
+        (loan image.new words.new bytes.new totals.new) (reply result (one_word answer.new)) }
 {
     give_entry(
         image,

@@ -1,7 +1,7 @@
 // The calls on a text alone: its first unit, a path's first component, whether a name is refused.
 ghost use Rattle.std.specs.Prelude.{◌≡◌};
 ghost use Rattle.disc.specs.Texts.{first_unit, component_length, name_judged};
-ghost use Rattle.counter.specs.Replies.{reply, accepts, number_told, one, unit_words};
+ghost use Rattle.counter.specs.Replies.{reply, accepted_reply, number_told, one_word, unit_words};
 
 use crate::answer::give;
 use refusal::Verdict;
@@ -16,7 +16,7 @@ fn number(verdict: Verdict) -> u32
 // Kept: two words, of which the second is a number, as C reads it (C).
 #[unsafe(no_mangle)]
 pub extern "C" fn counter_unit(text: &[u8], answer: &mut [u32; 2]) -> u32
-    ensures { reply result answer.new ≡ accepts (unit_words (first_unit text.now)) }
+    ensures { reply result answer.new ≡ accepted_reply (unit_words (first_unit text.now)) }
 {
     let unit = disc::first_unit(text);
     give(answer, Ok([unit.len, number(unit.verdict)]))
@@ -24,7 +24,8 @@ pub extern "C" fn counter_unit(text: &[u8], answer: &mut [u32; 2]) -> u32
 
 #[unsafe(no_mangle)]
 pub extern "C" fn counter_component(path: &[u8], answer: &mut u64) -> u32
-    ensures { reply result (one answer.new) ≡ accepts (one (component_length path.now)) }
+    ensures { reply result (one_word answer.new)
+        ≡ accepted_reply (one_word (component_length path.now)) }
 {
     let length = disc::component_length(path);
     give(answer, Ok(length as u64))

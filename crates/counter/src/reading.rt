@@ -1,17 +1,17 @@
 // The calls that read an image.
 ghost use Rattle.std.specs.Prelude.{◌≡◌, length};
-ghost use Rattle.disc.specs.Calls.{opened_of, totals_answer, record_answer, program_answer};
+ghost use Rattle.disc.specs.Calls.{open_answer, totals_answer, record_answer, program_answer};
 ghost use Rattle.disc.specs.Files.{entry_answer, lookup_answer, entries_answer, entries_list};
 ghost use Rattle.edit.specs.TableAnew.{anew_answer, anew_buffer};
 ghost use Rattle.opened.specs.Opening.{zeros};
 ghost use Rattle.opened.specs.Faults.{fault_of};
-ghost use Rattle.counter.specs.Replies.{reply, replied, disc_words, disc_totals_words, totals_words};
-ghost use Rattle.counter.specs.Replies.{region_words, found_reply, program_reply, one, accepts};
+ghost use Rattle.counter.specs.Replies.{reply, reply_of, disc_words, disc_totals_words, totals_words};
+ghost use Rattle.counter.specs.Replies.{region_words, found_reply, program_reply, one_word, accepted_reply};
 ghost use Rattle.counter.specs.Replies as replies;
 
 use crate::answer::give;
 use disc::DiscTotals;
-use opened::{About, Disc, Fault, Owner};
+use opened::{About, Fault, Owner, Summary};
 use space::{DiscRegion, Totals};
 use tree::{Entry, Found};
 
@@ -73,9 +73,9 @@ fn fault_words(fault: Option<Fault>) -> [u32; 4]
 // ---- the calls
 
 #[unsafe(no_mangle)]
-pub extern "C" fn counter_open(image: &[u8], words: &mut [u32], answer: &mut Disc) -> u32
+pub extern "C" fn counter_open(image: &[u8], words: &mut [u32], answer: &mut Summary) -> u32
     ensures answer { reply result (disc_words answer.new)
-        ≡ replied disc_words (disc_words answer.old) (opened_of image.now (length words.old)) }
+        ≡ reply_of disc_words (disc_words answer.old) (open_answer image.now (length words.old)) }
     ensures words_zero { words.new ≡ zeros words.old }
 {
     give(answer, disc::open(image, words))
@@ -84,7 +84,7 @@ pub extern "C" fn counter_open(image: &[u8], words: &mut [u32], answer: &mut Dis
 #[unsafe(no_mangle)]
 pub extern "C" fn counter_totals(image: &[u8], words: &mut [u32], answer: &mut DiscTotals) -> u32
     ensures answer { reply result (disc_totals_words answer.new)
-        ≡ replied disc_totals_words (disc_totals_words answer.old)
+        ≡ reply_of disc_totals_words (disc_totals_words answer.old)
         (totals_answer image.now (length words.old)) }
     ensures words_zero { words.new ≡ zeros words.old }
 {
@@ -95,7 +95,7 @@ pub extern "C" fn counter_totals(image: &[u8], words: &mut [u32], answer: &mut D
 #[unsafe(no_mangle)]
 pub extern "C" fn counter_make_record(image: &[u8], words: &mut [u32], totals: &mut Totals) -> u32
     ensures answer { reply result (totals_words totals.new)
-        ≡ replied totals_words (totals_words totals.old)
+        ≡ reply_of totals_words (totals_words totals.old)
         (record_answer image.now (length words.old)) }
     ensures words_zero { words.new ≡ zeros words.old }
 {
@@ -152,10 +152,10 @@ pub extern "C" fn counter_entries(
     image: &[u8],
     words: &mut [u32],
     list: &mut [u32],
-    answer: &mut Disc,
+    answer: &mut Summary,
 ) -> u32
     ensures answer { reply result (disc_words answer.new)
-        ≡ replied disc_words (disc_words answer.old)
+        ≡ reply_of disc_words (disc_words answer.old)
         (entries_answer image.now (length words.old) (length list.old)) }
     ensures list_after { list.new ≡ entries_list image.now (length words.old) list.old }
     ensures words_zero { words.new ≡ zeros words.old }
@@ -171,8 +171,8 @@ pub extern "C" fn counter_table_anew(
     table: &mut [u8],
     answer: &mut u32,
 ) -> u32
-    ensures answer { reply result (one answer.new)
-        ≡ replied one (one answer.old)
+    ensures answer { reply result (one_word answer.new)
+        ≡ reply_of one_word (one_word answer.old)
         (anew_answer image.now (length words.old) (length table.old)) }
     ensures table_after { table.new ≡ anew_buffer image.now (length words.old) table.old }
     ensures words_zero { words.new ≡ zeros words.old }
@@ -185,7 +185,7 @@ pub extern "C" fn counter_table_anew(
 #[unsafe(no_mangle)]
 pub extern "C" fn counter_fault(image: &[u8], words: &mut [u32], answer: &mut [u32; 4]) -> u32
     ensures answer { reply result answer.new
-        ≡ accepts (replies.fault_words (fault_of image.now (length words.old))) }
+        ≡ accepted_reply (replies.fault_words (fault_of image.now (length words.old))) }
     ensures words_zero { words.new ≡ zeros words.old }
 {
     *answer = fault_words(disc::fault(image, words));

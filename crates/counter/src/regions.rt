@@ -5,7 +5,7 @@ ghost use Rattle.disc.specs.Calls.{free_clusters_answer, free_clusters_list, all
 ghost use Rattle.opened.specs.Opening.{zeros};
 ghost use Rattle.opened.specs.Answers.{max_region_size_answer};
 ghost use Rattle.disc.specs.Files.{max_file_size_answer};
-ghost use Rattle.counter.specs.Replies.{reply, replied, one, region_words};
+ghost use Rattle.counter.specs.Replies.{reply, reply_of, one_word, region_words};
 
 use crate::answer::give;
 use refusal::Refusal;
@@ -14,7 +14,7 @@ use space::DiscRegion;
 // How many regions there are; their number fits a slot, since each has a byte below the disc end.
 fn give_count(answer: &mut u32, listed: Result<usize, Refusal>) -> u32
     requires { (n : ℕ) → listed ≡ Ok n → n < 2 ^ 32 }
-    ensures { reply result (one answer.new) ≡ replied one (one answer.old) listed }
+    ensures { reply result (one_word answer.new) ≡ reply_of one_word (one_word answer.old) listed }
 {
     match listed {
         Ok(count) => give(answer, Ok(count as u32)),
@@ -29,8 +29,8 @@ pub extern "C" fn counter_free_regions(
     list: &mut [u32],
     answer: &mut u32,
 ) -> u32
-    ensures answer { reply result (one answer.new)
-        ≡ replied one (one answer.old)
+    ensures answer { reply result (one_word answer.new)
+        ≡ reply_of one_word (one_word answer.old)
         (free_regions_answer image.now (length words.old) (length list.old)) }
     ensures list_after { list.new ≡ free_regions_list image.now (length words.old) list.old }
     ensures words_zero { words.new ≡ zeros words.old }
@@ -45,8 +45,8 @@ pub extern "C" fn counter_free_clusters(
     list: &mut [u32],
     answer: &mut u32,
 ) -> u32
-    ensures answer { reply result (one answer.new)
-        ≡ replied one (one answer.old)
+    ensures answer { reply result (one_word answer.new)
+        ≡ reply_of one_word (one_word answer.old)
         (free_clusters_answer image.now (length words.old) (length list.old)) }
     ensures list_after { list.new ≡ free_clusters_list image.now (length words.old) list.old }
     ensures words_zero { words.new ≡ zeros words.old }
@@ -62,8 +62,8 @@ pub extern "C" fn counter_max_region_size(
     size: u32,
     answer: &mut u32,
 ) -> u32
-    ensures answer { reply result (one answer.new)
-        ≡ replied one (one answer.old)
+    ensures answer { reply result (one_word answer.new)
+        ≡ reply_of one_word (one_word answer.old)
         (max_region_size_answer image.now (length words.old) offset size) }
     ensures words_zero { words.new ≡ zeros words.old }
 {
@@ -77,8 +77,9 @@ pub extern "C" fn counter_max_file_size(
     number: u32,
     answer: &mut u32,
 ) -> u32
-    ensures answer { reply result (one answer.new)
-        ≡ replied one (one answer.old) (max_file_size_answer image.now (length words.old) number) }
+    ensures answer { reply result (one_word answer.new)
+        ≡ reply_of one_word (one_word answer.old)
+        (max_file_size_answer image.now (length words.old) number) }
     ensures words_zero { words.new ≡ zeros words.old }
 {
     give(answer, disc::max_file_size(image, words, number))
@@ -93,7 +94,7 @@ pub extern "C" fn counter_allocate(
     answer: &mut DiscRegion,
 ) -> u32
     ensures answer { reply result (region_words answer.new)
-        ≡ replied region_words (region_words answer.old)
+        ≡ reply_of region_words (region_words answer.old)
         (allocate_answer image.now (length words.old) size align) }
     ensures words_zero { words.new ≡ zeros words.old }
 {

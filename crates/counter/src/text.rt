@@ -2,7 +2,7 @@
 ghost use Rattle.std.specs.Prelude.{◌≡◌, length};
 ghost use Rattle.opened.specs.Opening.{zeros};
 ghost use Rattle.listing.specs.Listing.{list_answer, list_buffer, report_answer, report_buffer};
-ghost use Rattle.counter.specs.Replies.{reply, accepts, replied, one};
+ghost use Rattle.counter.specs.Replies.{reply, accepted_reply, reply_of, one_word};
 
 use crate::answer::give;
 
@@ -13,8 +13,8 @@ pub extern "C" fn counter_list(
     text: &mut [u8],
     answer: &mut u64,
 ) -> u32
-    ensures answer { reply result (one answer.new)
-        ≡ replied one (one answer.old)
+    ensures answer { reply result (one_word answer.new)
+        ≡ reply_of one_word (one_word answer.old)
         (list_answer image.now (length words.old) (length text.old)) }
     ensures text_after { text.new ≡ list_buffer image.now (length words.old) text.old }
     ensures words_zero { words.new ≡ zeros words.old }
@@ -33,8 +33,8 @@ pub extern "C" fn counter_report(
     text: &mut [u8],
     answer: &mut u64,
 ) -> u32
-    ensures answer { reply result (one answer.new)
-        ≡ accepts (one (report_answer image.now (length words.old) (length text.old))) }
+    ensures answer { reply result (one_word answer.new)
+        ≡ accepted_reply (one_word (report_answer image.now (length words.old) (length text.old))) }
     ensures text_after { text.new ≡ report_buffer image.now (length words.old) text.old }
     ensures words_zero { words.new ≡ zeros words.old }
 {

@@ -4,7 +4,7 @@ ghost use Rattle.window.specs.Window.{seek_of, count_of, window_after_read, buff
 ghost use Rattle.std.specs.declared.io.SeekFrom.TheVariants.{Start, Current, End};
 ghost use Rattle.disc.specs.Files.{open_file_answer};
 ghost use Rattle.opened.specs.Opening.{zeros};
-ghost use Rattle.counter.specs.Replies.{reply, replied, window_words};
+ghost use Rattle.counter.specs.Replies.{reply, reply_of, window_words};
 
 use crate::answer::give;
 use window::{SeekFrom, Window};
@@ -17,7 +17,7 @@ pub extern "C" fn counter_open_file(
     window: &mut Window,
 ) -> u32
     ensures answer { reply result (window_words window.new)
-        ≡ replied window_words (window_words window.old)
+        ≡ reply_of window_words (window_words window.old)
         (open_file_answer image.now (length words.old) number) }
     ensures words_zero { words.new ≡ zeros words.old }
 {
@@ -26,7 +26,7 @@ pub extern "C" fn counter_open_file(
 
 fn seek(window: &mut Window, to: SeekFrom) -> u32
     ensures { reply result (window_words window.new)
-        ≡ replied window_words (window_words window.old) (seek_of window.old to) }
+        ≡ reply_of window_words (window_words window.old) (seek_of window.old to) }
 {
     let sought = window.seek(to);
     give(window, sought)
@@ -35,7 +35,7 @@ fn seek(window: &mut Window, to: SeekFrom) -> u32
 #[unsafe(no_mangle)]
 pub extern "C" fn counter_seek_start(window: &mut Window, position: u64) -> u32
     ensures { reply result (window_words window.new)
-        ≡ replied window_words (window_words window.old) (seek_of window.old (Start position)) }
+        ≡ reply_of window_words (window_words window.old) (seek_of window.old (Start position)) }
 {
     seek(window, SeekFrom::Start(position))
 }
@@ -43,7 +43,7 @@ pub extern "C" fn counter_seek_start(window: &mut Window, position: u64) -> u32
 #[unsafe(no_mangle)]
 pub extern "C" fn counter_seek_current(window: &mut Window, distance: i64) -> u32
     ensures { reply result (window_words window.new)
-        ≡ replied window_words (window_words window.old) (seek_of window.old (Current distance)) }
+        ≡ reply_of window_words (window_words window.old) (seek_of window.old (Current distance)) }
 {
     seek(window, SeekFrom::Current(distance))
 }
@@ -51,7 +51,7 @@ pub extern "C" fn counter_seek_current(window: &mut Window, distance: i64) -> u3
 #[unsafe(no_mangle)]
 pub extern "C" fn counter_seek_end(window: &mut Window, distance: i64) -> u32
     ensures { reply result (window_words window.new)
-        ≡ replied window_words (window_words window.old) (seek_of window.old (End distance)) }
+        ≡ reply_of window_words (window_words window.old) (seek_of window.old (End distance)) }
 {
     seek(window, SeekFrom::End(distance))
 }

@@ -20,21 +20,21 @@ use Rattle.window.specs.Window.{new_window}
 use Rattle.opened.specs.Opening.{opening, table_of, nodes_in, free_space_of, free_of}
 use Rattle.opened.specs.Inner.Disc.{Opened, OpensAs, Means}
 use Rattle.opened.proofs.Laws.Meant.{start_meant, nodes_meant, free_meant}
-use Rattle.opened.specs.declared.summary.Disc as Told
-use Rattle.opened.specs.Answers.{behind, summary_of, max_region_size_answer}
+use Rattle.opened.specs.declared.summary.Summary as Told
+use Rattle.opened.specs.Answers.{answer_behind, summary_of, max_region_size_answer}
 use Rattle.opened.specs.Inner.Told.{told_of}
-use Rattle.opened.proofs.Laws.AnswerLaws.{behind-passed, asked, opened_means, opened_passes, told_meant}
+use Rattle.opened.proofs.Laws.AnswerLaws.{answer_behind-passed, asked, opened_means, opened_passes, told_meant}
 pub use Rattle.opened.proofs.Laws.AnswerLaws.{not_asked}
 use Rattle.disc.specs.Calls.{free_answer, free_list}
 use Rattle.disc.specs.Files.{file_in, entry_answer, window_answer, open_file_answer, file_size_answer, max_file_size_answer, dol_verdict, dol_as, open_dol_answer}
 
 module _ (image : List ℕ) (words : ℕ) (r : Result Opened Refusal) (h : OpensAs image words r) (d : Opened) (opened : r ≡ Ok d) where
   -- an answer of the nodes
-  pub nodes_asked : {A : Type 0} (f : Refusal → A) (g : List Node → A) (b : A) → b ≡ g d.disc.nodes → b ≡ behind (opening image words) f (g (nodes_in image))
+  pub nodes_asked : {A : Type 0} (f : Refusal → A) (g : List Node → A) (b : A) → b ≡ g d.disc.nodes → b ≡ answer_behind (opening image words) f (g (nodes_in image))
   nodes_asked f g b p = asked f (g (nodes_in image)) image words r h d opened b (λ m. p ∙ ap g (sym (nodes_meant image d m)))
 
   -- an answer of the free regions
-  pub free_asked : {A : Type 0} (f : Refusal → A) (g : List DiscRegion → A) (free : List DiscRegion) → free ≡ free_of d.disc → (b : A) → b ≡ g free → b ≡ behind (opening image words) f (g (free_space_of image))
+  pub free_asked : {A : Type 0} (f : Refusal → A) (g : List DiscRegion → A) (free : List DiscRegion) → free ≡ free_of d.disc → (b : A) → b ≡ g free → b ≡ answer_behind (opening image words) f (g (free_space_of image))
   free_asked f g free q b p = asked f (g (free_space_of image)) image words r h d opened b (λ m. p ∙ ap g (q ∙ sym (free_meant image d m)))
 
   -- a list of the free regions, each with its words in a row
@@ -49,15 +49,15 @@ module _ (image : List ℕ) (words : ℕ) (r : Result Opened Refusal) (h : Opens
 
   -- a list of all entries
   module _ (table : List ℕ) (bytes : table ≡ d.table) where
-    pub rows_asked : (list list' : List ℕ) (base : ℕ) → base ≡ d.disc.start → list' ≡ list_with_rows base table list → list' ≡ behind (opening image words) (λ (c : Refusal). list) (list_with_rows (fst_offset image) (table_of image) list)
+    pub rows_asked : (list list' : List ℕ) (base : ℕ) → base ≡ d.disc.start → list' ≡ list_with_rows base table list → list' ≡ answer_behind (opening image words) (λ (c : Refusal). list) (list_with_rows (fst_offset image) (table_of image) list)
     rows_asked list list' base from e = asked (λ (c : Refusal). list) _ image words r h d opened list' (λ m. e ∙ rw (from, bytes, start_meant image d m, m.table_is))
 
     module _ (room : ℕ) (v u : Verdict) (judged : v ≡ list_verdict table room) (is : v ≡ u) where
       verdict_is : Means image d → list_verdict (table_of image) room ≡ u
       verdict_is m = ap (λ (l : List ℕ). list_verdict l room) (m.table_is ∙ sym bytes) ∙ sym judged ∙ is
 
-      pub listing_asked : (t : Told.Disc) → t ≡ told_of d.disc → behind u Err (Ok t) ≡ behind (opening image words) Err (behind (list_verdict (table_of image) room) Err (Ok (summary_of image)))
-      listing_asked t e = asked Err _ image words r h d opened (behind u Err (Ok t)) (λ m. rw (verdict_is m, e ∙ told_meant image d m))
+      pub listing_asked : (t : Told.Summary) → t ≡ told_of d.disc → answer_behind u Err (Ok t) ≡ answer_behind (opening image words) Err (answer_behind (list_verdict (table_of image) room) Err (Ok (summary_of image)))
+      listing_asked t e = asked Err _ image words r h d opened (answer_behind u Err (Ok t)) (λ m. rw (verdict_is m, e ∙ told_meant image d m))
 
 -- a refused image has no free regions, and its list stays
 module _ (image : List ℕ) (words : ℕ) (r : Result Opened Refusal) (h : OpensAs image words r) (c : Refusal) (refused : r ≡ Err c) (row : DiscRegion → List ℕ) (list : List ℕ) where
@@ -86,7 +86,7 @@ windowed (found.Refused c) = refl
 
 sized : (image : List ℕ) (words : ℕ) → opening image words ≡ Ok tt → (x : Found) → size_in (free_space_of image) (file_in x) ≡ file_size_answer image words x
 unfolding max_region_size_answer
-sized image words o (found.At k (File file)) = behind-passed (opening image words) Err (Ok (max_region_size file.offset file.size (free_space_of image))) o
+sized image words o (found.At k (File file)) = answer_behind-passed (opening image words) Err (Ok (max_region_size file.offset file.size (free_space_of image))) o
 sized image words o (found.At k (Directory d)) = refl
 sized image words o (found.Refused c) = refl
 

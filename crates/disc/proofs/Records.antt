@@ -8,7 +8,7 @@ use Rattle.space.specs.Inner.Sort.{regions_in}
 use Rattle.space.specs.declared.totals.Totals.{Totals}
 use Rattle.space.specs.Inner.Scan.{longest_from}
 use Rattle.space.specs.Laws.LargestLaws.{largest-now}
-use Rattle.opened.specs.Opening.{used_in, behind_table, free_space_of}
+use Rattle.opened.specs.Opening.{used_in, regions_behind_table, free_space_of}
 use Rattle.opened.specs.Inner.Prepared.{IsOpen}
 use Rattle.opened.proofs.Laws.OpeningLaws.{used-regions}
 use Rattle.opened.specs.Inner.Disc.{Opened, Means}
@@ -18,18 +18,18 @@ use Rattle.disc.specs.Calls.{totals_of}
 largest-is : (image w : List ℕ) (m : ℕ) → IsOpen image w m → longest_from (disc_end image) 0 (record { offset = 0; size = 0 }) (table_end image) 0 (regions_in w 1 (m - 1)) ≡ largest_size (free_space_of image)
 unfolding used_in
 largest-is image w m o =
-    largest-now w m (disc_end image) (table_end image) (behind_table image) o.used.sorted (omega (arith, o.known.reads.bounds.after-header)) (used-regions image w m o.used) o.known.layout
+    largest-now w m (disc_end image) (table_end image) (regions_behind_table image) o.used.sorted (omega (arith, o.known.reads.bounds.after-header)) (used-regions image w m o.used) o.known.layout
 
 module _ (image : List ℕ) (d : Opened) (m : Means image d) where
   -- where the table ends
-  pub table_end_is : d.disc.start + d.disc.room ≡ table_end image
+  pub table_end_is : d.disc.start + d.disc.table_size ≡ table_end image
   table_end_is = rw (start_meant image d m, room_meant image d m)
 
   -- its numbers are 32 bits wide
-  pub table_end_fits : d.disc.start + d.disc.room < 2 ^ 32
+  pub table_end_fits : d.disc.start + d.disc.table_size < 2 ^ 32
   table_end_fits = omega (arith, table_end_is, m.known.reads.bounds.table, m.known.reads.bounds.small)
 
-  pub recorded : (w : List ℕ) (n : ℕ) → IsOpen image w n → (e t used largest : ℕ) → e ≡ d.disc.end → t ≡ d.disc.start + d.disc.room → used ≡ total_size d.disc.used
+  pub recorded : (w : List ℕ) (n : ℕ) → IsOpen image w n → (e t used largest : ℕ) → e ≡ d.disc.end → t ≡ d.disc.start + d.disc.table_size → used ≡ total_size d.disc.used
       → largest ≡ longest_from e 0 (record { offset = 0; size = 0 }) t 0 (regions_in w 1 (n - 1)) → ◌≡◌ {A = Totals} (record { used = used; largest = largest; edits = 0 }) (totals_of image 0)
   recorded w n o e t used largest p q u l =
       let f : largest ≡ largest_size (free_space_of image) = rw (p, ← end_meant image d m, q, table_end_is) at l ∙ largest-is image w n o in

@@ -3,7 +3,7 @@
 use Rattle.std.specs.Prelude.{Result, Ok, Err, nat_lt}
 use Rattle.refusal.specs.Refusal.{Verdict}
 use Rattle.refusal.specs.declared.Refusal.{Refusal}
-use Rattle.opened.specs.declared.summary.Disc.{Disc}
+use Rattle.opened.specs.declared.summary.Summary.{Summary}
 use Rattle.window.specs.declared.Window.{Window}
 use Rattle.std.specs.Prelude.{ℕ, List, length}
 use Rattle.refusal.specs.declared.Refusal.TheVariants.{LimitOrMemory, ExpectedFile}
@@ -11,7 +11,7 @@ use Rattle.refusal.specs.Refusal.{refuse, first}
 use Rattle.header.specs.Verdicts.{dol_offset, fst_offset}
 use Rattle.window.specs.Window.{new_window}
 use Rattle.executable.specs.Dol.{dol_header_of, file_size_of, dol_verdict_of}
-use Rattle.tree.specs.Lookup.{lookup, found_at, entry_found}
+use Rattle.tree.specs.Lookup.{lookup, found_of, entry_found}
 use Rattle.tree.specs.declared.Entry.TheVariants.{File, Directory}
 use Rattle.tree.specs.Table.{Node}
 use Rattle.tree.specs.declared.FileEntry.{FileEntry}
@@ -20,28 +20,28 @@ use Rattle.tree.specs.declared.Found.TheVariants as found
 use Rattle.table.specs.Rows.{list_verdict, list_with_rows}
 use Rattle.disc.specs.declared.answers.DolFile.{DolFile}
 use Rattle.opened.specs.Opening.{opening, table_of, nodes_in}
-use Rattle.opened.specs.Answers.{behind, summary_of, max_region_size_answer}
+use Rattle.opened.specs.Answers.{answer_behind, summary_of, max_region_size_answer}
 
 unfoldable pub entry_answer : List ℕ → ℕ → ℕ → Found
-entry_answer image words k = behind (opening image words) found.Refused (entry_found (nodes_in image) k)
+entry_answer image words k = answer_behind (opening image words) found.Refused (entry_found (nodes_in image) k)
 
 -- the entry of a tree that a path leads to; a path of more than 1,024 bytes is 9
 abbrev pub path_found : List Node → ℕ → List ℕ → Found
 path_found nodes start path =
-    behind (refuse (nat_lt 1024 (length path)) LimitOrMemory (Ok tt)) found.Refused (found_at nodes (lookup nodes start path))
+    answer_behind (refuse (nat_lt 1024 (length path)) LimitOrMemory (Ok tt)) found.Refused (found_of nodes (lookup nodes start path))
 
 unfoldable pub lookup_answer : List ℕ → ℕ → ℕ → List ℕ → Found
-lookup_answer image words start path = behind (opening image words) found.Refused (path_found (nodes_in image) start path)
+lookup_answer image words start path = answer_behind (opening image words) found.Refused (path_found (nodes_in image) start path)
 
--- all entries at once, into a list of so many words: six an entry (`row_of`), with the place of its name in the image
-unfoldable pub entries_answer : List ℕ → ℕ → ℕ → Result Disc Refusal
+-- all entries at once, into a list of so many words: six an entry (`entry_row`), with the place of its name in the image
+unfoldable pub entries_answer : List ℕ → ℕ → ℕ → Result Summary Refusal
 entries_answer image words room =
-    behind (opening image words) Err
-    (behind (list_verdict (table_of image) room) Err
+    answer_behind (opening image words) Err
+    (answer_behind (list_verdict (table_of image) room) Err
     (Ok (summary_of image)))
 
 unfoldable pub entries_list : List ℕ → ℕ → List ℕ → List ℕ
-entries_list image words list = behind (opening image words) (λ c. list) (list_with_rows (fst_offset image) (table_of image) list)
+entries_list image words list = answer_behind (opening image words) (λ c. list) (list_with_rows (fst_offset image) (table_of image) list)
 
 -- the place of a file, by its answer as an entry
 abbrev pub file_in : Found → Result FileEntry Refusal

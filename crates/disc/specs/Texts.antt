@@ -4,13 +4,13 @@ use Rattle.std.specs.Prelude.{Ok, ℕ, not, List, [], ◌∷◌, length, slice_i
 use Rattle.refusal.specs.declared.Refusal.TheVariants.{InvalidNameByte, UnsafeName}
 use Rattle.refusal.specs.Refusal.{Verdict, refuse}
 use Rattle.tree.specs.Units.{TextUnit, unit_bytes, units}
-use Rattle.tree.specs.Table.{plain_unit, safe_unit, plain, safe}
+use Rattle.tree.specs.Table.{is_plain_unit, is_safe_unit, is_plain, is_safe}
 use Rattle.tree.specs.Lookup.{components}
 use Rattle.disc.specs.declared.answers.FirstUnit.{FirstUnit}
 
 -- what a unit is refused for in a name
 abbrev pub unit_judged : TextUnit → Verdict
-unit_judged u = refuse (not (plain_unit u)) InvalidNameByte (refuse (not (safe_unit u)) UnsafeName (Ok tt))
+unit_judged u = refuse (not (is_plain_unit u)) InvalidNameByte (refuse (not (is_safe_unit u)) UnsafeName (Ok tt))
 
 -- how many bytes it has, and that
 abbrev pub unit_told : TextUnit → FirstUnit
@@ -30,4 +30,4 @@ component_length path = length (slice_index_or (components path) 0 [])
 
 -- what opening refuses an entry's name for: 12 before 13
 unfoldable pub name_judged : List ℕ → Verdict
-name_judged nm = refuse (not (plain nm)) InvalidNameByte (refuse (not (safe nm)) UnsafeName (Ok tt))
+name_judged nm = refuse (not (is_plain nm)) InvalidNameByte (refuse (not (is_safe nm)) UnsafeName (Ok tt))

@@ -9,7 +9,7 @@ ghost use Rattle.disc.specs.Files.{open_file_answer, max_file_size_answer};
 use opened::{Lent, OpenDisc};
 use refusal::Refusal;
 use table::Table;
-use tree::{Entry, FileEntry, Found};
+use tree::{Entry, FileEntry, Found, PATH_LIMIT};
 use window::Window;
 
 // Kept: image and words, here and in `rows`, are what a caller lends to each call, as C does.
@@ -25,7 +25,7 @@ fn entry_in(disc: &OpenDisc<'_>, number: u32) -> Found
 fn found_in(disc: &OpenDisc<'_>, start: u32, path: &[u8]) -> Found
     ensures { result ≡ path_found disc.now.disc.nodes start path.now }
 {
-    if 1024 < path.len() {
+    if PATH_LIMIT < path.len() {
         return Found::Refused(Refusal::LimitOrMemory);
     }
     table::find(&Table::new(disc.table()), start, path)

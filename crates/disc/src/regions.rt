@@ -4,20 +4,20 @@ ghost use Rattle.std.specs.Prelude.{◌≡◌, List, ℕ, length};
 ghost use Rattle.opened.specs.Opening.{zeros};
 ghost use Rattle.opened.specs.Inner.Disc.{Means};
 ghost use Rattle.opened.specs.Answers.{max_region_size_answer};
-ghost use Rattle.disc.specs.Calls.{opened_of, totals_answer, totals_of, record_answer, program_answer};
+ghost use Rattle.disc.specs.Calls.{open_answer, totals_answer, totals_of, record_answer, program_answer};
 ghost use Rattle.disc.specs.Calls.{free_regions_answer, free_regions_list};
 ghost use Rattle.disc.specs.Calls.{free_clusters_answer, free_clusters_list, allocate_answer};
 
 use crate::answers::DiscTotals;
 use executable::Program;
-use opened::{Disc, Lent, OpenDisc};
+use opened::{Lent, OpenDisc, Summary};
 use refusal::Refusal;
 use space::{Clusters, DiscRegion, Totals, UsedRegions};
 
 /// Opens an image and tells of its disc, or says why it is refused.
-#[tactic(auto, using(crate::proofs::Asked::not_asked), unfolding(crate::specs::Calls::opened_of))]
-pub fn open(image: &[u8], words: &mut [u32]) -> Result<Disc, Refusal>
-    ensures answer { result ≡ opened_of image.now (length words.old) }
+#[tactic(auto, using(crate::proofs::Asked::not_asked), unfolding(crate::specs::Calls::open_answer))]
+pub fn open(image: &[u8], words: &mut [u32]) -> Result<Summary, Refusal>
+    ensures answer { result ≡ open_answer image.now (length words.old) }
     ensures words_zero { words.new ≡ zeros words.old }
 {
     let lent = Lent::new(words);
@@ -45,7 +45,7 @@ fn record_of(disc: &OpenDisc<'_>) -> Totals
 {
     let disc_end = disc.end();
     let used = UsedRegions::new(disc.words, disc.used, disc_end);
-    let table_end = disc.start() + disc.room();
+    let table_end = disc.start() + disc.table_size();
     // Kept: a region without bytes, which is no plainer as an `Option`: the definition of the
     // largest size takes one where no file is edited.
     let none = DiscRegion { offset: 0, size: 0 };

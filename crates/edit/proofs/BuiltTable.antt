@@ -15,17 +15,17 @@ use Rattle.tree.proofs.Laws.RoundTrip.{within-limits}
 use Rattle.table_writing.specs.Inner.Measure.{measure_of}
 use Rattle.space.specs.declared.region.DiscRegion.{DiscRegion}
 use Rattle.opened.specs.Opening.{nodes_in}
-use Rattle.opened.specs.Inner.Prepared.{OpenImage}
+use Rattle.opened.specs.Inner.Prepared.{IsOpenImage}
 use Rattle.opened.specs.Inner.Disc.{Opened, IsTableOf}
 use Rattle.table_writing.specs.Inner.Growth.{tree_in, Stands, IsBuilt}
 use Rattle.table_writing.proofs.StandingTable.{built-stands}
-use Rattle.edits.specs.Change.{place_verdict}
-use Rattle.edit.specs.Inner.Decision.{behind_tests, judged_size}
+use Rattle.edit_rules.specs.Change.{place_verdict}
+use Rattle.edit.specs.Inner.Decision.{value_behind, judged_size}
 use Rattle.edit.proofs.Images.{table-past, table-sized}
 use Rattle.edit.proofs.Discs.{nodes_are}
 use Rattle.edit.proofs.TableSlice.{past-cause, limits-past, limits-passed}
 
-well-open : (image : List ℕ) (words : ℕ) → OpenImage image words → IsWellFormed (nodes_in image)
+well-open : (image : List ℕ) (words : ℕ) → IsOpenImage image words → IsWellFormed (nodes_in image)
 unfolding nodes_in
 well-open image words known = known.reads.table.well
 
@@ -59,7 +59,7 @@ module _ (d : Opened) (tab : List ℕ) (t : IsTableOf d tab) (r : Result ℕ Ref
     table-small = let l = within-limits d.disc.nodes d.words both.0 in omega (arith, length-encode d.disc.nodes, l.few, l.texts)
 
     -- judged by its place
-    pub judged-sized : (room : ℕ) (place : DiscRegion) (v : Verdict) → v ≡ place_verdict d.disc room n place → behind_tests v n ≡ judged_size d room place
+    pub judged-sized : (room : ℕ) (place : DiscRegion) (v : Verdict) → v ≡ place_verdict d.disc room n place → value_behind v n ≡ judged_size d room place
     judged-sized room place v p = table-sized d.disc.nodes place d.disc d.words room n v both.0 both.1 p
 
 -- ---- the tree, written

@@ -9,12 +9,12 @@ use lib.Seq.{length-take-le, take-append_seam}
 use Rattle.endian.specs.Bytes.{put, span, be32, be32_bytes}
 use Rattle.endian.specs.Laws.Stored.{length-put, drop-put, put-none}
 use Rattle.header.specs.Verdicts.{fst_offset, fst_size}
-use Rattle.edits.specs.Change.{padded, with_table}
-use Rattle.edits.proofs.Laws.Puts.{put-length, field_below}
+use Rattle.edit_rules.specs.Change.{padded_table, image_with_table}
+use Rattle.edit_rules.proofs.Laws.Puts.{put-length, field_below}
 use Rattle.table_writing.proofs.Puts.{put-swap}
 use Rattle.edit.specs.declared.decision.Writing.{Writing}
-use Rattle.edit.specs.Inner.Decision.{clipped, written_with, Fits}
-use Rattle.edit.specs.Inner.Filling.{Clear, uncopied}
+use Rattle.edit.specs.Inner.Decision.{clipped_image, written_with, Fits}
+use Rattle.edit.specs.Inner.Filling.{IsClear, uncopied_writing}
 
 -- bytes put over others that they cover
 over : (s : List ℕ) (at : ℕ) (x y : List ℕ) → length x ≤ length y → at + length y ≤ length s → put (put s at x) at y ≡ put s at y
@@ -36,9 +36,9 @@ pub put-over : (s : List ℕ) (at : ℕ) (x y : List ℕ) → length x ≤ lengt
 put-over s at [] y h fits = rw (put-none s at)
 put-over s at (b ∷ x) y h fits = over s at (b ∷ x) y h (fits (omega arith))
 
-pub clipped-put : (s : List ℕ) (at : ℕ) (x : List ℕ) → clipped s at x ≡ put s at x
-clipped-put s at [] = sym (put-none s at)
-clipped-put s at (b ∷ x) = refl
+pub clipped_image-put : (s : List ℕ) (at : ℕ) (x : List ℕ) → clipped_image s at x ≡ put s at x
+clipped_image-put s at [] = sym (put-none s at)
+clipped_image-put s at (b ∷ x) = refl
 
 -- ---- bytes at places that are apart, in either order
 
@@ -84,7 +84,7 @@ module _ (p z : List ℕ) (n a f at lost long : ℕ) (word : List ℕ) (behind :
 
 -- ---- the image
 
-module _ (image t clip : List ℕ) (room : ℕ) (w : Writing) (k : Clear image (length t) w (length clip)) (fits : Fits image room (length t) w) where
+module _ (image t clip : List ℕ) (room : ℕ) (w : Writing) (k : IsClear image (length t) w (length clip)) (fits : Fits image room (length t) w) where
   abbrev n : ℕ
   n = length clip
 
@@ -102,7 +102,7 @@ module _ (image t clip : List ℕ) (room : ℕ) (w : Writing) (k : Clear image (
   size-kept = field-kept 0x428 (omega arith)
 
   abbrev table : List ℕ
-  table = padded t (fst_size image)
+  table = padded_table t (fst_size image)
 
   length-table : length table ≡ length t + (fst_size image - length t)
   length-table = length-append t (replicate (fst_size image - length t) 0) ∙ ap (λ (m : ℕ). length t + m) (length-replicate {A = ℕ} (fst_size image - length t) 0)
@@ -147,8 +147,8 @@ module _ (image t clip : List ℕ) (room : ℕ) (w : Writing) (k : Clear image (
   long = length_rest table (replicate w.lost.size 0) n a (fst_offset image) 0x428 w.lost.offset (length image) (be32_bytes (length t)) behind before k.into header apart zeroed image refl inside
 
   -- LAW: the clip, the table, the zeros, and no copy
-  pub clip-first : written_with (uncopied w) t (put image a clip) ≡ put (written_with w t image) a clip
-  unfolding written_with with_table copied
+  pub clip-first : written_with (uncopied_writing w) t (put image a clip) ≡ put (written_with w t image) a clip
+  unfolding written_with image_with_table copied
   clip-first =
       rw (offset-kept, size-kept, put-none (put image a clip) a)
       (writes clip (omega arith) ∙ sym (ap (λ (y : List ℕ). put y a clip) (writes copied short) ∙ put-over (others image) a copied clip short (λ z. omega (arith, long, k.into z))))

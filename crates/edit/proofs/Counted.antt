@@ -5,15 +5,15 @@ use mathlib.Core.Bool.{Bool, true, false, cond}
 use mathlib.Core.List.{List, [], ◌∷◌}
 use native.Mathlib.Omega.{arith}
 use lib.ListN.{length}
-use Rattle.tree.specs.Units.{TextUnit, single, pair, lead_byte, trail_byte, units}
-use Rattle.tree.specs.Lookup.{separates, longer, components_of, components}
+use Rattle.tree.specs.Units.{TextUnit, single, pair, is_lead_byte, is_trail_byte, units}
+use Rattle.tree.specs.Lookup.{is_separator_unit, components_with, components_of, components}
 use Rattle.tree.proofs.Laws.UnitLaws.{by_units}
 
 one-more : (u : TextUnit) (us : List TextUnit) → length (components_of (u ∷ us)) ≤ length (components_of us) + 1
 unfolding components_of
-one-more u us = go (separates u) (components_of us)
+one-more u us = go (is_separator_unit u) (components_of us)
   where
-    go : (t : Bool) (cs : List (List ℕ)) → length (cond t ([] ∷ cs) (longer u cs)) ≤ length cs + 1
+    go : (t : Bool) (cs : List (List ℕ)) → length (cond t ([] ∷ cs) (components_with u cs)) ≤ length cs + 1
     go true cs = omega arith
     go false [] = omega arith
     go false (c ∷ cs) = omega arith
@@ -28,7 +28,7 @@ components-few = by_units Few (few-none) of_pair of-single
     few-none : Few []
     few-none = omega arith
 
-    of_pair : (a b : ℕ) (s : List ℕ) → lead_byte a ≡ true → trail_byte b ≡ true → units (a ∷ b ∷ s) ≡ pair a b ∷ units s → Few s → Few (a ∷ b ∷ s)
+    of_pair : (a b : ℕ) (s : List ℕ) → is_lead_byte a ≡ true → is_trail_byte b ≡ true → units (a ∷ b ∷ s) ≡ pair a b ∷ units s → Few s → Few (a ∷ b ∷ s)
     of_pair a b s l t u few = let m = one-more (pair a b) (units s) in rw u (omega (arith, m, few))
 
     of-single : (a : ℕ) (s : List ℕ) → units (a ∷ s) ≡ single a ∷ units s → Few s → Few (a ∷ s)

@@ -1,7 +1,7 @@
 -- When a decision is what a plan comes to: behind tests that passed or refused, and for a change that is written.
 -- Assumes nothing.
-use Rattle.std.specs.Prelude.{Result, Ok, Err}
-use Rattle.refusal.specs.Refusal.{Verdict, first, is_refused}
+use Rattle.std.specs.Prelude.{Result, Ok, Err, is_err}
+use Rattle.refusal.specs.Refusal.{Verdict, first}
 use Prim.Native.Nat.{ℕ}
 use mathlib.Core.Path.{◌≡◌, refl, sym, ap, ◌∙◌}
 use mathlib.Core.Bool.{cond}
@@ -18,26 +18,26 @@ use Rattle.edit.specs.declared.decision.Writing.{Writing}
 use Rattle.edit.specs.declared.decision.Decision.{Decision}
 use Rattle.edit.specs.declared.decision.Decision.TheVariants as decision
 use Rattle.opened.specs.Opening.{Disc}
-use Rattle.edits.specs.Change.{written, table_verdict, Plan, refused, nothing, change, filled, place_verdict}
-use Rattle.edits.specs.Edits.{planned, plan_verdict, plan_image, plan_number, numbered_as}
-use Rattle.edits.proofs.Laws.Behind as behind
-use Rattle.edit.specs.Inner.Decision.{change_with, placing, written_with, Fits, behind_tests, carried_answer, Decided, DecidedAs}
+use Rattle.edit_rules.specs.Change.{written_image, table_verdict, Plan, refused, nothing, change, filled, place_verdict}
+use Rattle.edit_rules.specs.Edits.{plan_behind, plan_verdict, plan_image, plan_number, number_behind}
+use Rattle.edit_rules.proofs.Laws.Behind as behind
+use Rattle.edit.specs.Inner.Decision.{change_with, placing_change, written_with, Fits, value_behind, carried_answer, IsDecided, DecidedAs}
 
-pub planned-first : (a b : Verdict) (p : Plan) → planned (first a b) p ≡ planned a (planned b p)
-planned-first (Ok _) b p = refl
-planned-first (Err c) b p = refl
+pub plan_behind-first : (a b : Verdict) (p : Plan) → plan_behind (first a b) p ≡ plan_behind a (plan_behind b p)
+plan_behind-first (Ok _) b p = refl
+plan_behind-first (Err c) b p = refl
 
 -- what was found behind tests, and that they passed; or the cause
-pub tests-passed : {A : Type 0} (v : Verdict) (x y : A) → behind_tests v x ≡ Ok y → (v ≡ Ok tt) × (x ≡ y)
+pub tests-passed : {A : Type 0} (v : Verdict) (x y : A) → value_behind v x ≡ Ok y → (v ≡ Ok tt) × (x ≡ y)
 tests-passed (Ok _) x y e = (refl, cc)
 tests-passed (Err c) x y e = let z : ◌≡◌ {A = ℕ} 0 1 = cc in absurd (omega arith)
 
-pub tests-refused : {A : Type 0} (v : Verdict) (x : A) (c : Refusal) → behind_tests v x ≡ Err c → v ≡ Err c
+pub tests-refused : {A : Type 0} (v : Verdict) (x : A) (c : Refusal) → value_behind v x ≡ Err c → v ≡ Err c
 tests-refused (Ok _) x c e = let z : ◌≡◌ {A = ℕ} 0 1 = cc in absurd (omega arith)
 tests-refused (Err d) x c e = cc
 
-written_same : (image : List ℕ) (nodes : List Node) (w : Writing) → written_with w (encode nodes) image ≡ written (change_with nodes w) image
-unfolding written_with written
+written_same : (image : List ℕ) (nodes : List Node) (w : Writing) → written_with w (encode nodes) image ≡ written_image (change_with nodes w) image
+unfolding written_with written_image
 written_same image nodes w = refl
 
 module _ (image : List ℕ) (x : Disc) (words room : ℕ) (bytes : List ℕ) where
@@ -47,29 +47,29 @@ module _ (image : List ℕ) (x : Disc) (words room : ℕ) (bytes : List ℕ) whe
     fits = tt;
     carries = tt;
     answer = sym e;
-    after = sym (ap (λ (v : Verdict). cond (is_refused v) image (plan_image p image)) e);
+    after = sym (ap (λ (v : Verdict). cond (is_err v) image (plan_image p image)) e);
   }
 
-  pub refused-decided : (p : Plan) (c : Refusal) → plan_verdict p x words room ≡ Err c → Decided p image x words room bytes (Err c)
+  pub refused-decided : (p : Plan) (c : Refusal) → plan_verdict p x words room ≡ Err c → IsDecided p image x words room bytes (Err c)
   refused-decided p c e = refused-with [] p c e
 
-  pub behind-passed : (v : Verdict) (p : Plan) (d : Result Decision Refusal) → v ≡ Ok tt → Decided p image x words room bytes d → Decided (planned v p) image x words room bytes d
+  pub behind-passed : (v : Verdict) (p : Plan) (d : Result Decision Refusal) → v ≡ Ok tt → IsDecided p image x words room bytes d → IsDecided (plan_behind v p) image x words room bytes d
   behind-passed v p d e h = rw (behind.behind-passed v p e) h
 
-  pub behind-refused-with : (clip : List ℕ) (v : Verdict) (p : Plan) (c : Refusal) → v ≡ Err c → DecidedAs (plan_verdict (planned v p) x words room) (planned v p) image room bytes clip (Err c)
+  pub behind-refused-with : (clip : List ℕ) (v : Verdict) (p : Plan) (c : Refusal) → v ≡ Err c → DecidedAs (plan_verdict (plan_behind v p) x words room) (plan_behind v p) image room bytes clip (Err c)
   behind-refused-with clip v p c e = rw (behind.behind-refused v p c e) (refused-with clip (refused (Err c)) c refl)
 
-  pub behind-refused : (v : Verdict) (p : Plan) (c : Refusal) → v ≡ Err c → Decided (planned v p) image x words room bytes (Err c)
+  pub behind-refused : (v : Verdict) (p : Plan) (c : Refusal) → v ≡ Err c → IsDecided (plan_behind v p) image x words room bytes (Err c)
   behind-refused v p c e = behind-refused-with [] v p c e
 
   -- a change whose tests passed, with its table in the working bytes
   pub write-decided : (k : ℕ) (nodes : List Node) (size : ℕ) (w : Writing) → Fits image room size w → table_verdict (change_with nodes w) x words room ≡ Ok tt → span bytes 0 size ≡ encode nodes →
-      Decided (change k (change_with nodes w)) image x words room bytes (Ok (decision.Write k size w))
+      IsDecided (change k (change_with nodes w)) image x words room bytes (Ok (decision.Write k size w))
   write-decided k nodes size w f e s = record {
     fits = (λ z. omega arith, f);
     carries = record { number = refl; table = s; change = refl };
     answer = sym e;
-    after = ap (λ (t : List ℕ). written_with w t image) s ∙ written_same image nodes w ∙ sym (ap (λ (v : Verdict). cond (is_refused v) image (written (change_with nodes w) image)) e);
+    after = ap (λ (t : List ℕ). written_with w t image) s ∙ written_same image nodes w ∙ sym (ap (λ (v : Verdict). cond (is_err v) image (written_image (change_with nodes w) image)) e);
   }
 
 -- ---- the tests of a tree that differs in a place only
@@ -79,13 +79,13 @@ length-encode-set_place o n k nodes =
     omega (arith, length-encode (set_place k o n nodes), length-encode nodes, length-set_place o n k nodes, ap length (texts-set_place o n k nodes))
 
 pub same_tests : (x : Disc) (words room k o n : ℕ) (nodes : List Node) (w : Writing) →
-    table_verdict (change_with (set_place k o n nodes) w) x words room ≡ table_verdict (placing nodes w.place) x words room
+    table_verdict (change_with (set_place k o n nodes) w) x words room ≡ table_verdict (placing_change nodes w.place) x words room
 unfolding table_verdict place_verdict
 same_tests x words room k o n nodes w = rw (limits-set_place o n k nodes words, length-encode-set_place o n k nodes)
 
 -- ---- the answer with the entry's number
 
-pub answered : (v : Verdict) (p : Plan) (image : List ℕ) (room : ℕ) (bytes clip : List ℕ) (d : Result Decision Refusal) → DecidedAs v p image room bytes clip d → carried_answer d ≡ numbered_as v (plan_number p)
+pub answered : (v : Verdict) (p : Plan) (image : List ℕ) (room : ℕ) (bytes clip : List ℕ) (d : Result Decision Refusal) → DecidedAs v p image room bytes clip d → carried_answer d ≡ number_behind v (plan_number p)
 answered v p image room bytes clip (Err c) h = rw (← h.answer)
 answered v nothing image room bytes clip (Ok decision.Nothing) h = rw (← h.answer)
 answered v (refused u) image room bytes clip (Ok decision.Nothing) h = absurd h.carries

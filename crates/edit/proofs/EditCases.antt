@@ -1,16 +1,14 @@
 -- What an edit decides on, on the disc that opened, is entered in the record as any edit's decision is. Assumes nothing.
-use Rattle.std.specs.Prelude.{Result, Ok, Err, ℕ, ◌≡◌, List, length}
+use Rattle.std.specs.Prelude.{Result, ℕ, ◌≡◌, List, length}
 use Rattle.std.proofs.Common.{sym, subst}
-use Rattle.refusal.specs.Refusal.{Verdict}
 use Rattle.refusal.specs.declared.Refusal.{Refusal}
 use Rattle.space.specs.declared.totals.Totals.{Totals}
 use Rattle.opened.specs.Opening.{opening, Disc, disc_of}
-use Rattle.edits.specs.Edits as edits
-use Rattle.edits.specs.Edits.{planned, plan_of, plan_verdict, numbered_as}
-use Rattle.edits.specs.Promise.{Lent, only_verdict, Edited}
+use Rattle.edit_rules.specs.Edits as edits
+use Rattle.edit_rules.specs.Edits.{plan_behind, plan_of, plan_verdict}
 use Rattle.opened.specs.Inner.Disc.{Opened, Means}
 use Rattle.edit.specs.declared.decision.Decision.{Decision}
-use Rattle.edit.specs.Inner.Decision.{DecidedAs, verdict_in}
+use Rattle.edit.specs.Inner.Decision.{DecidedAs}
 use Rattle.edit.specs.Inner.Accounting.{OnDisc, OfUsed, Accounted, account_of, IsAccountedFor}
 use Rattle.edit.specs.Laws.AccountLaws.{on-disc}
 use Rattle.edit.proofs.Edited.{open-accounted}
@@ -29,14 +27,5 @@ module _ (ed : edits.Edit) (image : List ℕ) (words : ℕ) (d : Opened) (o : Me
 
   -- entered in the record
   pub edit-accounted : (r : Result Decision Refusal) → IsEditDecided ed d room bytes clip r → (a : Accounted) (t : Totals) → OfUsed d (λ image' behind. a ≡ account_of image' behind r t) → length bytes ≡ room →
-      IsAccountedFor (planned (opening image words) (plan_of ed (disc_of image))) image words room bytes clip t a
+      IsAccountedFor (plan_behind (opening image words) (plan_of ed (disc_of image))) image words room bytes clip t a
   edit-accounted r h a t q long = rw o.1 at (open-accounted ed h.passable image d o.0 room bytes clip long r (decided_as r h) a t q)
-
--- ---- an edit that gives only that it is done
-
-only : (r : Result ℕ Refusal) (v : Verdict) (k : ℕ) → r ≡ numbered_as v k → verdict_in r ≡ v
-only r (Ok tt) k e = rw e
-only r (Err c) k e = rw e
-
-pub done_as : (ed : edits.Edit) (before after : Lent) (r : Result ℕ Refusal) → Edited numbered_as ed before after r → Edited only_verdict ed before after (verdict_in r)
-done_as ed before after r e = record { answered = only r _ _ e.answered; image = e.image; totals = e.totals; words = e.words; bytes = e.bytes }

@@ -8,10 +8,10 @@ use Rattle.refusal.specs.declared.Refusal.{Refusal}
 use Rattle.refusal.specs.declared.Refusal.TheVariants.{LimitOrMemory}
 use Rattle.space.specs.declared.totals.Totals.{Totals}
 use Rattle.opened.specs.Opening.{opening, zeros}
-use Rattle.edits.specs.Edits.{Edit, numbered_as, image_after, totals_after}
-use Rattle.edits.specs.Promise.{lent, Edited}
+use Rattle.edit_rules.specs.Edits.{Edit, number_behind, image_after, totals_after}
+use Rattle.edit_rules.specs.Promise.{loan, IsEdited}
 use Rattle.ledger.specs.Ledger.{first_ledger}
-use Rattle.ledger.specs.Runs.{Passable, AllWithin, HandedOn, image_after_all, totals_after_all}
+use Rattle.ledger.specs.Runs.{IsPassable, AllWithin, IsHandedOn, image_after_all, totals_after_all}
 use Rattle.ledger.specs.Lists.{calls_of, answers_of, AppliesInTurn, LedgerHoldsAfter, TellsAfter}
 use Rattle.ledger.proofs.Laws.Sequence.{start}
 use Rattle.ledger.proofs.Laws.Steps.{step}
@@ -43,7 +43,7 @@ module _ (edits : List Edit) (words bytes : ℕ) (first : List ℕ) (t₀ : Tota
   -- one edit more
   pub turn : (i : ℕ) (image ws bs image' ws' bs' : List ℕ) (t t' : Totals) (now : List (Result ℕ Refusal)) (ed : Edit) (r : Result ℕ Refusal) →
       IsUnderway edits words bytes first t₀ old i image t now → i < length old → drop i edits ≡ ed ∷ drop (i + 1) edits → length ws ≡ words → length bs ≡ bytes →
-      Edited numbered_as ed (lent image ws bs t) (lent image' ws' bs' t') r → (opening image (length ws) ≡ Ok tt → Passable ed) →
+      IsEdited number_behind ed (loan image ws bs t) (loan image' ws' bs' t') r → (opening image (length ws) ≡ Ok tt → IsPassable ed) →
       IsUnderway edits words bytes first t₀ old (i + 1) image' t' (slice_set now i r)
   unfolding calls_of answers_of image_after_all totals_after_all
   turn i image ws bs image' ws' bs' t t' now ed r u h e lw lb d p =
@@ -84,7 +84,7 @@ module _ (edits : List Edit) (words bytes : ℕ) (first : List ℕ) (t₀ : Tota
       }
 
   -- what an edit does to the record goes into the next
-  handed : (es : List Edit) (t : Totals) (image : List ℕ) → HandedOn t (calls_of es t image words bytes) image
+  handed : (es : List Edit) (t : Totals) (image : List ℕ) → IsHandedOn t (calls_of es t image words bytes) image
   unfolding calls_of
   handed [] t image = tt
   handed (e ∷ es) t image = (refl, handed es (totals_after e t image words bytes) (image_after e t image words bytes))
@@ -97,15 +97,15 @@ module _ (edits : List Edit) (first ws bs : List ℕ) (t₀ : Totals) (old : Lis
     short : nat_lt (length old) (length edits) ≡ true
     short = lt-ltb (length old) (length edits) h
 
-    pub none-applied : ws' ≡ zeros ws → bs' ≡ zeros bs → AppliesInTurn edits (lent first ws bs t₀) (lent first ws' bs' t₀) old old (Err LimitOrMemory)
+    pub none-applied : ws' ≡ zeros ws → bs' ≡ zeros bs → AppliesInTurn edits (loan first ws bs t₀) (loan first ws' bs' t₀) old old (Err LimitOrMemory)
     unfolding answers_of image_after_all totals_after_all
     none-applied zw zb = record { verdict = rw short; image = rw short; totals = rw short; answers = rw short; words = zw; bytes = zb }
 
-    pub none-holds : AllBytes first → LedgerHoldsAfter (length old) edits (lent first ws bs t₀) (lent first ws' bs' t₀)
+    pub none-holds : AllBytes first → LedgerHoldsAfter (length old) edits (loan first ws bs t₀) (loan first ws' bs' t₀)
     unfolding image_after_all
     none-holds b o = rw short (ledger-holds first (length ws) (length ws) [] b o (omega arith) tt)
 
-    pub none-tells : AllBytes first → TellsAfter (length old) edits (lent first ws bs t₀) (lent first ws' bs' t₀)
+    pub none-tells : AllBytes first → TellsAfter (length old) edits (loan first ws bs t₀) (loan first ws' bs' t₀)
     unfolding image_after_all totals_after_all
     none-tells b m = rw short (record-tells first (length ws) (length ws) t₀ [] b m (omega arith) tt tt)
 
@@ -117,13 +117,13 @@ module _ (edits : List Edit) (first ws bs : List ℕ) (t₀ : Totals) (old : Lis
     done : IsFinished edits (length ws) (length bs) first t₀ old last t now
     done = finished edits (length ws) (length bs) first t₀ old i last t now u d z
 
-    pub all-applied : ws' ≡ zeros ws → bs' ≡ zeros bs → AppliesInTurn edits (lent first ws bs t₀) (lent last ws' bs' t) old now (Ok tt)
+    pub all-applied : ws' ≡ zeros ws → bs' ≡ zeros bs → AppliesInTurn edits (loan first ws bs t₀) (loan last ws' bs' t) old now (Ok tt)
     all-applied zw zb = record { verdict = rw long; image = rw long done.image; totals = rw long done.totals; answers = rw long done.answers; words = zw; bytes = zb }
 
-    pub all-hold : AllBytes first → LedgerHoldsAfter (length old) edits (lent first ws bs t₀) (lent last ws' bs' t)
+    pub all-hold : AllBytes first → LedgerHoldsAfter (length old) edits (loan first ws bs t₀) (loan last ws' bs' t)
     all-hold b o = rw (long, done.image) (ledger-holds first (length ws) (length ws) (calls_of edits t₀ first (length ws) (length bs)) b o (omega arith) (done.within o))
 
-    pub all-tell : AllBytes first → TellsAfter (length old) edits (lent first ws bs t₀) (lent last ws' bs' t)
+    pub all-tell : AllBytes first → TellsAfter (length old) edits (loan first ws bs t₀) (loan last ws' bs' t)
     all-tell b m =
         let o = (made_of first (length ws) t₀ m).0 in
         rw (long, done.image, done.totals) (record-tells first (length ws) (length ws) t₀ (calls_of edits t₀ first (length ws) (length bs)) b m (omega arith) (done.within o) (handed edits (length ws) (length bs) first t₀ old edits t₀ first))

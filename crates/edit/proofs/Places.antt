@@ -17,37 +17,37 @@ use Rattle.refusal.specs.declared.Refusal.TheVariants.{OverlappingMove}
 use Rattle.refusal.specs.Laws.Chains.{refuse-passed, first-passed}
 use Rattle.refusal.specs.Laws.Tests.{lt-or-le}
 use Rattle.header.specs.Verdicts.{table_end}
-use Rattle.tree.specs.Table.{Node, file, directory, none, encode, limits}
+use Rattle.tree.specs.Table.{Node, file, directory, empty_root, encode, limits}
 use Rattle.tree.specs.Lookup.{is_directory}
-use Rattle.tree.specs.Insert.{placed, set_place}
+use Rattle.tree.specs.Insert.{node_at_place, set_place}
 use Rattle.tree.proofs.Laws.PlaceLaws.{set_place-at}
 use Rattle.space.specs.declared.region.DiscRegion.{DiscRegion}
 use Rattle.space.specs.Used.{end_of}
 use Rattle.space.specs.MaxRegionSize.{max_region_size}
 use Rattle.space.specs.Allocate.{allocation_of}
 use Rattle.opened.specs.Opening.{nodes_in, region_of, free_space_of, disc_of}
-use Rattle.opened.specs.Inner.Prepared.{OpenImage}
-use Rattle.edits.specs.Change.{Change, table_verdict, Plan, refused, nothing, change, filled}
-use Rattle.edits.specs.Edits.{overlaps_itself, relocate_verdict, relocated, resized, planned, plan_elsewhere, plan_sized, plan_verdict, plan_tree}
-use Rattle.edits.proofs.Laws.PlaceTests.{place-passed}
+use Rattle.opened.specs.Inner.Prepared.{IsOpenImage}
+use Rattle.edit_rules.specs.Change.{Change, table_verdict, Plan, refused, nothing, change, filled}
+use Rattle.edit_rules.specs.Edits.{is_overlapping, relocate_verdict, relocation_change, resize_change, plan_behind, plan_elsewhere, plan_sized, plan_verdict, plan_tree}
+use Rattle.edit_rules.proofs.Laws.PlaceTests.{place-passed}
 use Rattle.edit.specs.Inner.Files.{IsFile}
 use Rattle.edit.specs.declared.decision.Writing.{Writing}
 use Rattle.edit.specs.declared.decision.Decision.TheVariants as decision
 use Rattle.edit.specs.Inner.Decision.{change_with, Carries}
 use Rattle.edit.proofs.Images.{file-lies, new-place, end-in-image}
 use Rattle.edit.proofs.Stays.{stays-on-disc}
-use Rattle.edit.specs.Inner.Filling.{Clear, uncopied}
+use Rattle.edit.specs.Inner.Filling.{IsClear, uncopied_writing}
 
 -- a file that is put elsewhere is there
-put-there : (nodes : List Node) (k o n : ℕ) → IsFile nodes k → (region_of (get_or (set_place k o n nodes) k none)).offset ≡ o
-put-there nodes k o n f = ap (λ (x : Node). (region_of x).offset) (set_place-at o n k nodes f.inside) ∙ go (get_or nodes k none) f.kind
+put-there : (nodes : List Node) (k o n : ℕ) → IsFile nodes k → (region_of (get_or (set_place k o n nodes) k empty_root)).offset ≡ o
+put-there nodes k o n f = ap (λ (x : Node). (region_of x).offset) (set_place-at o n k nodes f.inside) ∙ go (get_or nodes k empty_root) f.kind
   where
-    go : (x : Node) → is_directory x ≡ false → (region_of (placed o n x)).offset ≡ o
+    go : (x : Node) → is_directory x ≡ false → (region_of (node_at_place o n x)).offset ≡ o
     go (file nm a b) e = refl
     go (directory nm b) e = let z : ◌≡◌ {A = ℕ} 0 1 = cc in absurd (omega arith)
 
 -- regions that do not overlap lie one behind the other
-one-behind : (old new : DiscRegion) → overlaps_itself old new ≡ false → 0 < new.size → 0 < old.size → (end_of new ≤ old.offset) ⊎ (end_of old ≤ new.offset)
+one-behind : (old new : DiscRegion) → is_overlapping old new ≡ false → 0 < new.size → 0 < old.size → (end_of new ≤ old.offset) ⊎ (end_of old ≤ new.offset)
 one-behind old new e z y = ⊎_elim (λ h. inl (ltb-false old.offset (end_of new) (rw (lt-ltb new.offset (end_of old) h) at e))) (λ h. inr h) (lt-or-le new.offset (end_of old))
 
 -- of a change that gives a file n bytes: nothing is asked where n is 0
@@ -59,7 +59,7 @@ record Lies (image : List ℕ) (c : Change) (n : ℕ) : Type 0 where
 
 -- the same of the numbers that are written
 clear : (image : List ℕ) (c : Change) (n words room size : ℕ) (bytes : List ℕ) (w : Writing) → Lies image c n → table_verdict c (disc_of image) words room ≡ Ok tt → span bytes 0 size ≡ encode c.nodes → size ≤ length bytes →
-    c ≡ change_with c.nodes w → Clear image size w n
+    c ≡ change_with c.nodes w → IsClear image size w n
 unfolding table_verdict
 clear image c n words room size bytes w l v t s e =
     let p : c.place ≡ w.place = ap (λ (x : Change). x.place) e in
@@ -75,7 +75,7 @@ clear image c n words room size bytes w l v t s e =
       apart = λ y. rw (p, o) at (l.apart y);
     }
 
-module _ (image : List ℕ) (words : ℕ) (known : OpenImage image words) (k : ℕ) (f : IsFile (nodes_in image) k) (old : DiscRegion) (here : region_of (get_or (nodes_in image) k none) ≡ old) (n : ℕ) where
+module _ (image : List ℕ) (words : ℕ) (known : IsOpenImage image words) (k : ℕ) (f : IsFile (nodes_in image) k) (old : DiscRegion) (here : region_of (get_or (nodes_in image) k empty_root) ≡ old) (n : ℕ) where
   -- ---- where the file stays
 
   old-lies : 0 < old.size → end_of old ≤ length image
@@ -84,30 +84,30 @@ module _ (image : List ℕ) (words : ℕ) (known : OpenImage image words) (k : �
   stays : (leb n old.size || leb n (max_region_size old.offset old.size (free_space_of image))) ≡ true → 0 < n → (table_end image ≤ old.offset) × (old.offset + n ≤ length image)
   stays t z = let l = stays-on-disc image words known k f old here n t z in (l.0, omega (arith, l.1, end-in-image image words known))
 
-  lies-here : (leb n old.size || leb n (max_region_size old.offset old.size (free_space_of image))) ≡ true → Lies image (resized (nodes_in image) k old n) n
+  lies-here : (leb n old.size || leb n (max_region_size old.offset old.size (free_space_of image))) ≡ true → Lies image (resize_change (nodes_in image) k old n) n
   lies-here t = record { size = refl; behind = stays t; covers = omega arith; apart = λ z y. inl (omega arith) }
 
   -- ---- where it goes elsewhere
 
-  lies-there : (o : ℕ) → relocate_verdict (free_space_of image) old (record { offset = o; size = n }) ≡ Ok tt → Lies image (relocated (nodes_in image) k old (record { offset = o; size = n })) n
+  lies-there : (o : ℕ) → relocate_verdict (free_space_of image) old (record { offset = o; size = n }) ≡ Ok tt → Lies image (relocation_change (nodes_in image) k old (record { offset = o; size = n })) n
   lies-there o v =
       let new : DiscRegion = record { offset = o; size = n } in
       record {
         size = refl;
         behind = λ z. let l = new-place image words known old new v z in (l.0, omega (arith, l.1, end-in-image image words known));
         covers = omega arith;
-        apart = one-behind old new (refuse-passed (overlaps_itself old new) OverlappingMove _ v).0;
+        apart = one-behind old new (refuse-passed (is_overlapping old new) OverlappingMove _ v).0;
       }
 
   -- ---- the resize
 
   -- LAW: what its plan is: nothing, refused, or a change that leaves the clip's place clear
   sized : (Shown : Plan → Type 0) → (n ≡ old.size → Shown nothing) → ((c : Refusal) → Shown (refused (Err c))) →
-      ((c : Change) → Lies image c n → (region_of (get_or c.nodes k none)).offset ≡ c.place.offset → Shown (change k c)) → Shown (plan_sized (free_space_of image) (nodes_in image) k old n)
+      ((c : Change) → Lies image c n → (region_of (get_or c.nodes k empty_root)).offset ≡ c.place.offset → Shown (change k c)) → Shown (plan_sized (free_space_of image) (nodes_in image) k old n)
   sized Shown same none-fits some = by_size (eqb n old.size) refl
     where
-      moved : (o : ℕ) (v : Verdict) → relocate_verdict (free_space_of image) old (record { offset = o; size = n }) ≡ v → Shown (planned v (change k (relocated (nodes_in image) k old (record { offset = o; size = n }))))
-      moved o (Ok _) e = some (relocated (nodes_in image) k old (record { offset = o; size = n })) (lies-there o e) (put-there (nodes_in image) k o n f)
+      moved : (o : ℕ) (v : Verdict) → relocate_verdict (free_space_of image) old (record { offset = o; size = n }) ≡ v → Shown (plan_behind v (change k (relocation_change (nodes_in image) k old (record { offset = o; size = n }))))
+      moved o (Ok _) e = some (relocation_change (nodes_in image) k old (record { offset = o; size = n })) (lies-there o e) (put-there (nodes_in image) k o n f)
       moved o (Err c) e = none-fits c
 
       by_place : (r : Result DiscRegion Refusal) → Shown (plan_elsewhere (nodes_in image) (free_space_of image) k old n r)
@@ -115,12 +115,12 @@ module _ (image : List ℕ) (words : ℕ) (known : OpenImage image words) (k : �
       by_place (Ok r) = moved r.offset (relocate_verdict (free_space_of image) old (record { offset = r.offset; size = n })) refl
 
       by-room : (t : Bool) → (leb n old.size || leb n (max_region_size old.offset old.size (free_space_of image))) ≡ t →
-          Shown (cond t (change k (resized (nodes_in image) k old n)) (plan_elsewhere (nodes_in image) (free_space_of image) k old n (allocation_of 0x8000 n (free_space_of image))))
-      by-room true e = some (resized (nodes_in image) k old n) (lies-here e) (put-there (nodes_in image) k old.offset n f)
+          Shown (cond t (change k (resize_change (nodes_in image) k old n)) (plan_elsewhere (nodes_in image) (free_space_of image) k old n (allocation_of 0x8000 n (free_space_of image))))
+      by-room true e = some (resize_change (nodes_in image) k old n) (lies-here e) (put-there (nodes_in image) k old.offset n f)
       by-room false e = by_place (allocation_of 0x8000 n (free_space_of image))
 
       by_size : (t : Bool) → eqb n old.size ≡ t →
-          Shown (cond t nothing (cond (leb n old.size || leb n (max_region_size old.offset old.size (free_space_of image))) (change k (resized (nodes_in image) k old n)) (plan_elsewhere (nodes_in image) (free_space_of image) k old n (allocation_of 0x8000 n (free_space_of image)))))
+          Shown (cond t nothing (cond (leb n old.size || leb n (max_region_size old.offset old.size (free_space_of image))) (change k (resize_change (nodes_in image) k old n)) (plan_elsewhere (nodes_in image) (free_space_of image) k old n (allocation_of 0x8000 n (free_space_of image)))))
       by_size true e = same (eqb-true n old.size e)
       by_size false e = by-room (leb n old.size || leb n (max_region_size old.offset old.size (free_space_of image))) refl
 
@@ -137,11 +137,11 @@ module _ (image : List ℕ) (words : ℕ) (known : OpenImage image words) (k : �
 
   -- and a change that passes its tests can be written behind the clip
   pub clip-clear : (room number size : ℕ) (bytes clip : List ℕ) (w : Writing) → size ≤ length bytes → Carries (Ok (decision.Write number size w)) bytes p → plan_verdict p (disc_of image) words room ≡ Ok tt →
-      Clear image size w n × ((region_of (get_or (plan_tree p (nodes_in image)) k none)).offset ≡ w.place.offset) × Carries (Ok (decision.Write k size (uncopied w))) bytes (filled k clip p)
+      IsClear image size w n × ((region_of (get_or (plan_tree p (nodes_in image)) k empty_root)).offset ≡ w.place.offset) × Carries (Ok (decision.Write k size (uncopied_writing w))) bytes (filled k clip p)
   clip-clear room number size bytes clip w held =
       sized
       (λ (x : Plan).
-      Carries (Ok (decision.Write number size w)) bytes x → plan_verdict x (disc_of image) words room ≡ Ok tt → Clear image size w n × ((region_of (get_or (plan_tree x (nodes_in image)) k none)).offset ≡ w.place.offset) × Carries (Ok (decision.Write k size (uncopied w))) bytes (filled k clip x))
+      Carries (Ok (decision.Write number size w)) bytes x → plan_verdict x (disc_of image) words room ≡ Ok tt → IsClear image size w n × ((region_of (get_or (plan_tree x (nodes_in image)) k empty_root)).offset ≡ w.place.offset) × Carries (Ok (decision.Write k size (uncopied_writing w))) bytes (filled k clip x))
       (λ e h. absurd h) (λ c h. absurd h)
       (λ c l g h v. (
         clear image c n words room size bytes w l v h.table held h.change,

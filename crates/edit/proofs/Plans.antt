@@ -19,17 +19,17 @@ use Rattle.tree.specs.Lookup.{components}
 use Rattle.tree.proofs.Laws.InsertedList.{well-nested}
 use Rattle.tree.proofs.Laws.Growing.{Bigger, bigger-same}
 use Rattle.tree.proofs.Laws.RoundTrip.{within-limits}
-use Rattle.edits.specs.Change.{Plan, change}
-use Rattle.edits.specs.Edits.{Made, stopped, made, make, table_only, planned, plan_made, plan_make_directories, plan_verdict}
-use Rattle.edits.specs.Inner.Troubles.{made_verdict, trouble_of}
-use Rattle.edits.proofs.Laws.Troubles.{make-trouble}
-use Rattle.edits.proofs.Laws.MadeTree.{make-grows}
+use Rattle.edit_rules.specs.Change.{Plan, change}
+use Rattle.edit_rules.specs.Edits.{Made, stopped, made, make, table_change, plan_behind, plan_made, plan_make_directories, plan_verdict}
+use Rattle.edit_rules.specs.Inner.Troubles.{made_verdict, trouble_of}
+use Rattle.edit_rules.proofs.Laws.Troubles.{make-trouble}
+use Rattle.edit_rules.proofs.Laws.MadeTree.{make-grows}
 use Rattle.opened.specs.Inner.Disc.{Opened}
 use Rattle.edit.specs.declared.decision.Decision.{Decision}
 use Rattle.edit.specs.Inner.Decision.{Decides}
 use Rattle.table_writing.specs.declared.growing.Growing.{Growing}
 use Rattle.table_writing.specs.Inner.Growth.{IsBuilt}
-use Rattle.table_writing.specs.Inner.Growing.{tree_of}
+use Rattle.table_writing.specs.Inner.Growing.{growing_tree}
 use Rattle.edit.proofs.Decisions.{refused-decided}
 use Rattle.edit.proofs.TableChanges.{unbuilt-decides, same-decides}
 use Rattle.edit.specs.Inner.Walk.{path_trouble, path_verdict}
@@ -62,7 +62,7 @@ module _ (d : Opened) (start : ℕ) (path : List ℕ) where
   path-refused room bytes c e image m = refused-decided image d.disc d.words room bytes plan c (go (ltb 1024 (length path)) (leb (length nodes) start) whole e)
     where
       go : (a b : Bool) (x : Made) → refuse a LimitOrMemory (refuse b NoSuchEntry (made_verdict x)) ≡ Err c →
-          plan_verdict (planned (refuse a LimitOrMemory (refuse b NoSuchEntry (Ok tt))) (plan_made x)) d.disc d.words room ≡ Err c
+          plan_verdict (plan_behind (refuse a LimitOrMemory (refuse b NoSuchEntry (Ok tt))) (plan_made x)) d.disc d.words room ≡ Err c
       go true b x q = q
       go false true x q = q
       go false false (stopped d) q = q
@@ -85,11 +85,11 @@ module _ (d : Opened) (start : ℕ) (path : List ℕ) where
     pub makes-all : made_verdict whole ≡ Ok tt
     makes-all = passed.2
 
-    plan-is : plan ≡ change (made_entry whole) (table_only (made_tree whole))
+    plan-is : plan ≡ change (made_entry whole) (table_change (made_tree whole))
     unfolding plan_make_directories
     plan-is = rw (passed.0, passed.1) (go whole makes-all)
       where
-        go : (x : Made) → made_verdict x ≡ Ok tt → plan_made x ≡ change (made_entry x) (table_only (made_tree x))
+        go : (x : Made) → made_verdict x ≡ Ok tt → plan_made x ≡ change (made_entry x) (table_change (made_tree x))
         go x e = ap plan_made (all_made x e)
 
     grows : IsWellFormed nodes → Bigger nodes (made_tree whole) × (made_entry whole < length (made_tree whole))
@@ -118,10 +118,10 @@ module _ (d : Opened) (start : ℕ) (path : List ℕ) where
           pub made-small : k < 2 ^ 32
           made-small =
               let a = made_at in
-              let i = within-limits (tree_of g) g.words g.stands.within in
+              let i = within-limits (growing_tree g) g.words g.stands.within in
               omega (arith, a.0, (grows w).1, i.few, ap length a.1)
 
-          pub made-placed : (n : ℕ) (r : Result Decision Refusal) → n ≡ room → Decides (change k (table_only (tree_of g))) d n after r → Decides plan d room after r
+          pub made-placed : (n : ℕ) (r : Result Decision Refusal) → n ≡ room → Decides (change k (table_change (growing_tree g))) d n after r → Decides plan d room after r
           made-placed n r l h =
               let a = made_at in
-              rw plan-is (same-decides (tree_of g) (made_tree whole) d k (made_entry whole) n room after r a.1 a.0 l h)
+              rw plan-is (same-decides (growing_tree g) (made_tree whole) d k (made_entry whole) n room after r a.1 a.0 l h)

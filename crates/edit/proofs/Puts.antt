@@ -8,7 +8,7 @@ use Rattle.endian.specs.Bytes.{put, span, be32_bytes}
 use Rattle.endian.specs.Laws.Stored.{length-put, length-span, span-put, put-none}
 use Rattle.header.specs.Fields.{fst_size_field}
 use Rattle.tree.proofs.Laws.Records.{put-middle}
-use Rattle.edits.specs.Change.{with_table}
+use Rattle.edit_rules.specs.Change.{image_with_table}
 use Rattle.endian.proofs.Parts.{put-append, put-start}
 
 -- bytes put into what stands at the start
@@ -26,8 +26,8 @@ span-start s t l n e h q = rw (e, q) (span-put s 0 t (omega arith))
 -- the table, its lost tail and its size, put one after the other
 pub committed : (image bytes a b d : List ℕ) (f size n tail : ℕ) → n ≤ length bytes → f + n ≤ length image → f + size ≤ length image
     → tail ≡ size - n → a ≡ put image f (span bytes 0 n) → b ≡ put a (f + n) (replicate tail 0) → d ≡ put b fst_size_field.at (be32_bytes n) →
-    d ≡ with_table f size (span bytes 0 n) image
-unfolding with_table
+    d ≡ image_with_table f size (span bytes 0 n) image
+unfolding image_with_table
 committed image bytes a b d f size n tail h i j e p q r =
     let l : length (span bytes 0 n) ≡ n = length-span bytes 0 n (omega arith) in
     let m : f + n ≡ f + length (span bytes 0 n) = omega arith in

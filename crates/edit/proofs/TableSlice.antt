@@ -12,7 +12,7 @@ use Rattle.table_writing.specs.Inner.Measure.{measure_of}
 use Rattle.table_writing.specs.Inner.Valid.{IsValid}
 use Rattle.table_writing.specs.Laws.Accepted.{accepted-valid}
 use Rattle.opened.specs.Opening.{table_of, nodes_in}
-use Rattle.opened.specs.Inner.Prepared.{OpenImage}
+use Rattle.opened.specs.Inner.Prepared.{IsOpenImage}
 use Rattle.opened.proofs.Words.{Opens}
 use Rattle.edit.proofs.Images.{measured-cause, measured-past, measured-size}
 
@@ -20,7 +20,7 @@ pub opens-valid : (tab : List ℕ) → Opens tab → IsValid tab (count tab)
 opens-valid tab o = accepted-valid tab o.words o.passed
 
 module _ (image tab : List ℕ) (is : tab ≡ table_of image) where
-  module _ (words : ℕ) (known : OpenImage image words) (r : Result ℕ Refusal) (measured : r ≡ measure_of tab) where
+  module _ (words : ℕ) (known : IsOpenImage image words) (r : Result ℕ Refusal) (measured : r ≡ measure_of tab) where
     pub past-cause : (cause : Refusal) → r ≡ Err cause → cause ≡ LimitOrMemory
     past-cause cause e = measured-cause tab cause (sym measured ∙ e)
 

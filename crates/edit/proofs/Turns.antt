@@ -9,9 +9,9 @@ use native.Mathlib.Omega.{arith}
 use lib.ListN.{length, get_or}
 use Rattle.refusal.specs.declared.Refusal.{Refusal}
 use Rattle.refusal.specs.declared.Refusal.TheVariants.{UnsafeName, ExpectedDirectory, LimitOrMemory}
-use Rattle.tree.specs.Table.{Node, none, plain, safe, parent_of, encode, limits}
+use Rattle.tree.specs.Table.{Node, empty_root, is_plain, is_safe, parent_of, encode, limits}
 use Rattle.tree.specs.Inner.WellFormed.{IsGoodName, IsWellFormed}
-use Rattle.tree.specs.Lookup.{is_directory, child_of, stays, goes_back}
+use Rattle.tree.specs.Lookup.{is_directory, child_of, is_staying, is_going_back}
 use Rattle.tree.proofs.Laws.Children.{child-is}
 use Rattle.tree.proofs.Laws.LookupLaws.{child-inside}
 use Rattle.tree.proofs.Laws.Nesting.{parent-most}
@@ -20,11 +20,11 @@ use Rattle.tree.proofs.Laws.WellNested.{next-bounds}
 use Rattle.tree.specs.Insert.{insert_at, empty_directory}
 use Rattle.tree.proofs.Laws.InsertLaws.{length-insert, parent-insert-before, parent-insert-at}
 use Rattle.tree.proofs.Laws.Growing.{Bigger, bigger-insert, bigger-limits, bigger-encode}
-use Rattle.edits.specs.Edits.{new_number, Made, stopped, made, made_back, if_found, make}
-use Rattle.edits.specs.Inner.Troubles.{made_verdict}
-use Rattle.edits.proofs.Laws.MadeTree.{bad-stays, AllLt, make-grows}
+use Rattle.edit_rules.specs.Edits.{new_number, Made, stopped, made, made_step_back, if_found, make}
+use Rattle.edit_rules.specs.Inner.Troubles.{made_verdict}
+use Rattle.edit_rules.proofs.Laws.MadeTree.{bad-is_staying, AllLt, make-grows}
 use Rattle.table_writing.specs.declared.growing.Growing.{Growing}
-use Rattle.table_writing.specs.Inner.Growing.{tree_of}
+use Rattle.table_writing.specs.Inner.Growing.{growing_tree}
 use Rattle.edit.specs.Inner.Making.{made_tree, made_entry, turn_of, CanTurn, Reaches}
 
 -- ---- the entries left behind are the directories that the entry is nested in
@@ -67,37 +67,37 @@ module _ (M : List Node) (k n : ℕ) (nm : List ℕ) (cs : List (List ℕ)) (F :
   -- what comes after the test of the kind
   abbrev rest : Made
   rest =
-      cond (stays nm) (make M (ups M k n) k false cs)
-      (cond (goes_back nm) (made_back (ups M k n) (λ i trail. make M trail i false cs))
+      cond (is_staying nm) (make M (ups M k n) k false cs)
+      (cond (is_going_back nm) (made_step_back (ups M k n) (λ i trail. make M trail i false cs))
       (if_found (child_of M k nm) (λ i. make M (k ∷ ups M k n) i false cs)
-      (cond (safe nm) (make M' (k ∷ ups M k n) (new_number M k) (not (plain nm)) cs) (stopped UnsafeName))))
+      (cond (is_safe nm) (make M' (k ∷ ups M k n) (new_number M k) (not (is_plain nm)) cs) (stopped UnsafeName))))
 
-  tested : (is_directory (get_or M k none) ≡ true) × (rest ≡ made F j false)
+  tested : (is_directory (get_or M k empty_root) ≡ true) × (rest ≡ made F j false)
   unfolding make
-  tested = must (is_directory (get_or M k none)) rest ExpectedDirectory F j e
+  tested = must (is_directory (get_or M k empty_root)) rest ExpectedDirectory F j e
 
-  plain-is : (b : Bool) → plain nm ≡ b → make M' (k ∷ ups M k n) (new_number M k) (not b) cs ≡ made F j false → (plain nm ≡ true) × (make M' (k ∷ ups M k n) (new_number M k) false cs ≡ made F j false)
-  plain-is true p q = (p, q)
-  plain-is false p q = absurd (bad-stays cs M' (k ∷ ups M k n) (new_number M k) F j q)
+  is_plain-is : (b : Bool) → is_plain nm ≡ b → make M' (k ∷ ups M k n) (new_number M k) (not b) cs ≡ made F j false → (is_plain nm ≡ true) × (make M' (k ∷ ups M k n) (new_number M k) false cs ≡ made F j false)
+  is_plain-is true p q = (p, q)
+  is_plain-is false p q = absurd (bad-is_staying cs M' (k ∷ ups M k n) (new_number M k) F j q)
 
   -- a new directory
-  new-name : cond (safe nm) (make M' (k ∷ ups M k n) (new_number M k) (not (plain nm)) cs) (stopped UnsafeName) ≡ made F j false →
+  new-name : cond (is_safe nm) (make M' (k ∷ ups M k n) (new_number M k) (not (is_plain nm)) cs) (stopped UnsafeName) ≡ made F j false →
       IsGoodName nm × (make M' (k ∷ ups M k n) (new_number M k) false cs ≡ made F j false)
   new-name q =
-      let s = must (safe nm) (make M' (k ∷ ups M k n) (new_number M k) (not (plain nm)) cs) UnsafeName F j q in
-      let p = plain-is (plain nm) refl s.1 in
+      let s = must (is_safe nm) (make M' (k ∷ ups M k n) (new_number M k) (not (is_plain nm)) cs) UnsafeName F j q in
+      let p = is_plain-is (is_plain nm) refl s.1 in
       ((p.0, s.0), p.1)
 
   pub can-turn : CanTurn M k nm
   can-turn = record { directory = record { inside = k<n; kind = tested.0 }; named = λ s b. record { good = λ c f. go s b c f tested.1 } }
     where
-      go : stays nm ≡ false → goes_back nm ≡ false → (c : Refusal) → child_of M k nm ≡ Err c → rest ≡ made F j false → IsGoodName nm
+      go : is_staying nm ≡ false → is_going_back nm ≡ false → (c : Refusal) → child_of M k nm ≡ Err c → rest ≡ made F j false → IsGoodName nm
       go s b c f q = (new-name (rw (s, b, f) at q)).0
 
   onward-new : IsGoodName nm → make M' (k ∷ ups M k n) (new_number M k) false cs ≡ made F j false → Onward (made M' (new_number M k) false) cs F j
   unfolding ups
   onward-new g q =
-      let x = directory-is (get_or M k none) tested.0 in
+      let x = directory-is (get_or M k empty_root) tested.0 in
       let a = new_number M k in
       let b = next-bounds M k a x.0 w x.1 k<n in
       let l = length-insert M k a x.0 (empty_directory nm a) w x.1 k<n in
@@ -112,13 +112,13 @@ module _ (M : List Node) (k n : ℕ) (nm : List ℕ) (cs : List (List ℕ)) (F :
 
   pub onward-turn : Onward (turn_of M k nm) cs F j
   unfolding turn_of ups
-  onward-turn = go (stays nm) (goes_back nm) n (child_of M k nm) refl tested.1
+  onward-turn = go (is_staying nm) (is_going_back nm) n (child_of M k nm) refl tested.1
     where
       go : (u v : Bool) (t : ℕ) (x : Result ℕ Refusal) → child_of M k nm ≡ x →
           cond u (make M (ups M k n) k false cs)
-          (cond v (made_back (ups M k t) (λ i trail. make M trail i false cs))
+          (cond v (made_step_back (ups M k t) (λ i trail. make M trail i false cs))
           (if_found x (λ i. make M (k ∷ ups M k n) i false cs)
-          (cond (safe nm) (make M' (k ∷ ups M k n) (new_number M k) (not (plain nm)) cs) (stopped UnsafeName)))) ≡ made F j false →
+          (cond (is_safe nm) (make M' (k ∷ ups M k n) (new_number M k) (not (is_plain nm)) cs) (stopped UnsafeName)))) ≡ made F j false →
           Onward (cond u (made M k false) (cond v (made M (parent_of M k) false) (if_found x (λ i. made M i false) (made M' (new_number M k) false)))) cs F j
       go true v t x f q = record { well = w; inside = k<n; steps = n; left = q }
       go false true zero x f q = let z : ◌≡◌ {A = ℕ} 0 1 = cc in absurd (omega arith)
@@ -131,9 +131,9 @@ module _ (M : List Node) (k n : ℕ) (nm : List ℕ) (cs : List (List ℕ)) (F :
 pub record Making (F : List Node) (j words room : ℕ) (g : Growing) (k : ℕ) (rest : List (List ℕ)) : Type 0 where
   pub lent : g.words ≡ words
   pub long : length g.bytes.now ≡ room
-  pub inside : k < length (tree_of g)
+  pub inside : k < length (growing_tree g)
   pub steps : ℕ
-  pub left : make (tree_of g) (ups (tree_of g) k steps) k false rest ≡ made F j false
+  pub left : make (growing_tree g) (ups (growing_tree g) k steps) k false rest ≡ made F j false
 
 -- the walk met no trouble
 pub all_made : (m : Made) → made_verdict m ≡ Ok tt → m ≡ made (made_tree m) (made_entry m) false
@@ -141,37 +141,37 @@ all_made (stopped c) e = let z : ◌≡◌ {A = ℕ} 0 1 = cc in absurd (omega a
 all_made (made nodes k true) e = let z : ◌≡◌ {A = ℕ} 0 1 = cc in absurd (omega arith)
 all_made (made nodes k false) e = refl
 
-pub making-start : (g : Growing) (start : ℕ) (cs : List (List ℕ)) → start < length (tree_of g) → made_verdict (make (tree_of g) [] start false cs) ≡ Ok tt →
-    Making (made_tree (make (tree_of g) [] start false cs)) (made_entry (make (tree_of g) [] start false cs)) g.words (length g.bytes.now) g start cs
+pub making-start : (g : Growing) (start : ℕ) (cs : List (List ℕ)) → start < length (growing_tree g) → made_verdict (make (growing_tree g) [] start false cs) ≡ Ok tt →
+    Making (made_tree (make (growing_tree g) [] start false cs)) (made_entry (make (growing_tree g) [] start false cs)) g.words (length g.bytes.now) g start cs
 unfolding ups
-making-start g start cs h e = record { lent = refl; long = refl; inside = h; steps = 0; left = all_made (make (tree_of g) [] start false cs) e }
+making-start g start cs h e = record { lent = refl; long = refl; inside = h; steps = 0; left = all_made (make (growing_tree g) [] start false cs) e }
 
 module _ {F : List Node} {j words room : ℕ} {g : Growing} {k : ℕ} {nm : List ℕ} {cs : List (List ℕ)} (v : Making F j words room g k (nm ∷ cs)) where
-  pub making-can : CanTurn (tree_of g) k nm
-  making-can = can-turn (tree_of g) k v.steps nm cs F j g.stands.well v.inside v.left
+  pub making-can : CanTurn (growing_tree g) k nm
+  making-can = can-turn (growing_tree g) k v.steps nm cs F j g.stands.well v.inside v.left
 
-  next : Onward (turn_of (tree_of g) k nm) cs F j
-  next = onward-turn (tree_of g) k v.steps nm cs F j g.stands.well v.inside v.left
+  next : Onward (turn_of (growing_tree g) k nm) cs F j
+  next = onward-turn (growing_tree g) k v.steps nm cs F j g.stands.well v.inside v.left
 
   module _ (h : Growing) (lent : h.words ≡ g.words) where
     -- what there is no room for on the way there is none for at the end
-    pub making-stops : (x : Result ℕ Refusal) (c : Refusal) → Reaches (turn_of (tree_of g) k nm) (length g.bytes.now) h x → x ≡ Err c → (c ≡ LimitOrMemory) × (limits F words ≡ Ok tt → room < length (encode F))
+    pub making-stops : (x : Result ℕ Refusal) (c : Refusal) → Reaches (turn_of (growing_tree g) k nm) (length g.bytes.now) h x → x ≡ Err c → (c ≡ LimitOrMemory) × (limits F words ≡ Ok tt → room < length (encode F))
     making-stops x c y e =
-        let r : Reaches (turn_of (tree_of g) k nm) (length g.bytes.now) h (Err c) = rw e at y in
+        let r : Reaches (turn_of (growing_tree g) k nm) (length g.bytes.now) h (Err c) = rw e at y in
         let o = next in
-        let T = made_tree (turn_of (tree_of g) k nm) in
+        let T = made_tree (turn_of (growing_tree g) k nm) in
         let b : Bigger T F = (make-grows T _ _ false cs F j o.well o.inside (ups-inside T _ o.steps o.inside) o.left).0 in
         let w : h.words ≡ words = lent ∙ v.lent in
         (r.0, λ l. omega (arith, (rw w at r.1) (bigger-limits T F words b l), bigger-encode T F b, v.long))
 
-    pub making-turn : (q : ℕ) → length h.bytes.now ≡ length g.bytes.now → Reaches (turn_of (tree_of g) k nm) (length g.bytes.now) h (Ok q) → Making F j words room h q cs
+    pub making-turn : (q : ℕ) → length h.bytes.now ≡ length g.bytes.now → Reaches (turn_of (growing_tree g) k nm) (length g.bytes.now) h (Ok q) → Making F j words room h q cs
     making-turn q same r =
         let o = next in
         record { lent = lent ∙ v.lent; long = same ∙ v.long; inside = rw (r.1, r.0) o.inside; steps = o.steps; left = rw (r.1, r.0) o.left }
 
 -- the path is at its end
-pub making-end : (F : List Node) (j words room : ℕ) (g : Growing) (k : ℕ) → Making F j words room g k [] → (k ≡ j) × (tree_of g ≡ F)
+pub making-end : (F : List Node) (j words room : ℕ) (g : Growing) (k : ℕ) → Making F j words room g k [] → (k ≡ j) × (growing_tree g ≡ F)
 unfolding make
 making-end F j words room g k v =
-    let d = must (is_directory (get_or (tree_of g) k none)) (made (tree_of g) k false) ExpectedDirectory F j v.left in
+    let d = must (is_directory (get_or (growing_tree g) k empty_root)) (made (growing_tree g) k false) ExpectedDirectory F j v.left in
     (ap made_entry d.1, ap made_tree d.1)

@@ -1,6 +1,6 @@
 -- The edit that a value of `edit::Edit` asks for, and the clip that it brings. Assumes nothing: these are definitions.
 use Rattle.std.specs.Prelude.{ℕ, List, []}
-use Rattle.edits.specs.Edits as edits
+use Rattle.edit_rules.specs.Edits as edits
 use Rattle.table_writing.specs.declared.kind.Kind.{Kind}
 use Rattle.table_writing.specs.declared.kind.Kind.TheVariants as kind
 use Rattle.edit.specs.declared.pipeline.Edit.{Edit}

@@ -7,7 +7,7 @@ use Rattle.refusal.specs.declared.Refusal.TheVariants.{LimitOrMemory}
 use Rattle.refusal.specs.Refusal.{Verdict, refuse, first}
 use Rattle.tree.specs.Table.{encode, limits}
 use Rattle.opened.specs.Opening.{opening, nodes_in}
-use Rattle.opened.specs.Answers.{behind}
+use Rattle.opened.specs.Answers.{answer_behind}
 
 -- with no name shared
 unfoldable pub table_anew : List ℕ → List ℕ
@@ -22,8 +22,8 @@ anew_verdict image words room =
     (refuse (nat_lt room (length (table_anew image))) LimitOrMemory (Ok tt)))
 
 unfoldable pub anew_answer : List ℕ → ℕ → ℕ → Result ℕ Refusal
-anew_answer image words room = behind (anew_verdict image words room) Err (Ok (length (table_anew image)))
+anew_answer image words room = answer_behind (anew_verdict image words room) Err (Ok (length (table_anew image)))
 
 -- the buffer afterwards: the table in front, or with a refusal all as it was
 unfoldable pub anew_buffer : List ℕ → ℕ → List ℕ → List ℕ
-anew_buffer image words buffer = behind (anew_verdict image words (length buffer)) (λ c. buffer) (put buffer 0 (table_anew image))
+anew_buffer image words buffer = answer_behind (anew_verdict image words (length buffer)) (λ c. buffer) (put buffer 0 (table_anew image))

@@ -1,8 +1,8 @@
 // The totals record after what an edit decides on: its test, which comes last, and the record moved on.
 ghost use Rattle.std.specs.Prelude.{◌≡◌, Ok, ◌+◌, ◌≤◌};
-ghost use Rattle.space.specs.Inner.Scan.{moved};
+ghost use Rattle.space.specs.Inner.Scan.{moved_with};
 ghost use Rattle.edit.specs.Inner.Accounting.{OnDisc, OfUsed, entered_as, entered_for};
-ghost use Rattle.edit.specs.Inner.Accounting.{accounted, account_of};
+ghost use Rattle.edit.specs.Inner.Accounting.{account_with, account_of};
 
 use crate::decision::{Decision, Writing};
 use opened::OpenDisc;
@@ -21,14 +21,14 @@ fn enter(
 ) -> Verdict
     requires { disc.now.disc.start + size ≤ disc.now.disc.end }
     ensures { OfUsed disc.now (λ image behind.
-        moved result totals.new ≡ entered_as image behind totals.old size old new) }
+        moved_with result totals.new ≡ entered_as image behind totals.old size old new) }
 {
     let disc_end = disc.end();
     let size = size as u32;
     let table_end = disc.start() + size;
     let used = UsedRegions::new(disc.words, disc.used, disc_end);
     let largest = space::largest_after(&used, disc_end, table_end, old, new);
-    let before = u64::from(disc.room()) + u64::from(old.size);
+    let before = u64::from(disc.table_size()) + u64::from(old.size);
     let after = u64::from(size) + u64::from(new.size);
     totals.move_on(before, after, largest)
 }
@@ -38,14 +38,14 @@ fn enter(
 fn enter_decision(disc: &OpenDisc<'_>, decision: Decision, totals: &mut Totals) -> Verdict
     requires { OnDisc disc.now.disc (Ok decision) }
     ensures { OfUsed disc.now (λ image behind.
-        moved result totals.new ≡ entered_for image behind decision totals.old) }
+        moved_with result totals.new ≡ entered_for image behind decision totals.old) }
 {
     // An open disc has room for its own table.
     let _ = &disc.table;
     match decision {
         Decision::Nothing | Decision::Clip { .. } => {
             let Writing { old, place, .. } = Writing::NOTHING;
-            enter(disc, totals, disc.room() as usize, old, place)
+            enter(disc, totals, disc.table_size() as usize, old, place)
         }
         Decision::Write { size, writing, .. } => {
             enter(disc, totals, size, writing.old, writing.place)
@@ -62,7 +62,7 @@ pub fn account(
 ) -> Result<Decision, Refusal>
     requires { OnDisc disc.now.disc decided }
     ensures { OfUsed disc.now (λ image behind.
-        accounted result totals.new ≡ account_of image behind decided totals.old) }
+        account_with result totals.new ≡ account_of image behind decided totals.old) }
 {
     // Its used regions are known of an edit that is refused, too.
     let _ = &disc.words;

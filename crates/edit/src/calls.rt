@@ -1,7 +1,7 @@
 // The edits of an image, each a line over the one way through every edit.
-ghost use Rattle.edits.specs.Edits as edits;
-ghost use Rattle.edits.specs.Edits.{numbered_as};
-ghost use Rattle.edits.specs.Promise.{lent, only_verdict, Edited};
+ghost use Rattle.edit_rules.specs.Edits as edits;
+ghost use Rattle.edit_rules.specs.Edits.{number_behind};
+ghost use Rattle.edit_rules.specs.Promise.{loan, only_verdict, IsEdited};
 
 use crate::new_entry::NewEntry;
 use crate::pipeline;
@@ -18,9 +18,9 @@ pub fn rewrite(
     bytes: &mut [u8],
     totals: &mut Totals,
 ) -> Verdict
-    ensures { let before = lent image.old words.old bytes.old totals.old in
-        let after = lent image.new words.new bytes.new totals.new in
-        Edited only_verdict edits.rewrite before after result }
+    ensures { let before = loan image.old words.old bytes.old totals.old in
+        let after = loan image.new words.new bytes.new totals.new in
+        IsEdited only_verdict edits.rewrite before after result }
 {
     pipeline::done(image, words, bytes, totals, Edit::Rewrite)
 }
@@ -34,9 +34,9 @@ pub fn move_file(
     file: u32,
     offset: u32,
 ) -> Verdict
-    ensures { let before = lent image.old words.old bytes.old totals.old in
-        let after = lent image.new words.new bytes.new totals.new in
-        Edited only_verdict (edits.move_file file offset) before after result }
+    ensures { let before = loan image.old words.old bytes.old totals.old in
+        let after = loan image.new words.new bytes.new totals.new in
+        IsEdited only_verdict (edits.move_file file offset) before after result }
 {
     pipeline::done(image, words, bytes, totals, Edit::Move { file, offset })
 }
@@ -50,9 +50,9 @@ pub fn resize_file(
     file: u32,
     size: u32,
 ) -> Verdict
-    ensures { let before = lent image.old words.old bytes.old totals.old in
-        let after = lent image.new words.new bytes.new totals.new in
-        Edited only_verdict (edits.resize_file file size) before after result }
+    ensures { let before = loan image.old words.old bytes.old totals.old in
+        let after = loan image.new words.new bytes.new totals.new in
+        IsEdited only_verdict (edits.resize_file file size) before after result }
 {
     pipeline::done(image, words, bytes, totals, Edit::Resize { file, size })
 }
@@ -66,9 +66,9 @@ pub fn fill_file(
     file: u32,
     clip: &[u8],
 ) -> Verdict
-    ensures { let before = lent image.old words.old bytes.old totals.old in
-        let after = lent image.new words.new bytes.new totals.new in
-        Edited only_verdict (edits.fill_file file clip.now) before after result }
+    ensures { let before = loan image.old words.old bytes.old totals.old in
+        let after = loan image.new words.new bytes.new totals.new in
+        IsEdited only_verdict (edits.fill_file file clip.now) before after result }
 {
     pipeline::done(image, words, bytes, totals, Edit::Fill { file, clip })
 }
@@ -83,9 +83,9 @@ pub fn insert_file(
     parent: u32,
     name: &[u8],
 ) -> Result<u32, Refusal>
-    ensures { let before = lent image.old words.old bytes.old totals.old in
-        let after = lent image.new words.new bytes.new totals.new in
-        Edited numbered_as (edits.insert_file parent name.now) before after result }
+    ensures { let before = loan image.old words.old bytes.old totals.old in
+        let after = loan image.new words.new bytes.new totals.new in
+        IsEdited number_behind (edits.insert_file parent name.now) before after result }
 {
     let kind = Kind::File;
     let new = NewEntry { parent, kind, name };
@@ -101,9 +101,9 @@ pub fn insert_directory(
     parent: u32,
     name: &[u8],
 ) -> Result<u32, Refusal>
-    ensures { let before = lent image.old words.old bytes.old totals.old in
-        let after = lent image.new words.new bytes.new totals.new in
-        Edited numbered_as (edits.insert_directory parent name.now) before after result }
+    ensures { let before = loan image.old words.old bytes.old totals.old in
+        let after = loan image.new words.new bytes.new totals.new in
+        IsEdited number_behind (edits.insert_directory parent name.now) before after result }
 {
     let kind = Kind::Directory;
     let new = NewEntry { parent, kind, name };
@@ -120,9 +120,9 @@ pub fn make_directories(
     start: u32,
     path: &[u8],
 ) -> Result<u32, Refusal>
-    ensures { let before = lent image.old words.old bytes.old totals.old in
-        let after = lent image.new words.new bytes.new totals.new in
-        Edited numbered_as (edits.make_directories start path.now) before after result }
+    ensures { let before = loan image.old words.old bytes.old totals.old in
+        let after = loan image.new words.new bytes.new totals.new in
+        IsEdited number_behind (edits.make_directories start path.now) before after result }
 {
     pipeline::run(
         image,

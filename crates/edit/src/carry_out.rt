@@ -1,9 +1,9 @@
 // What a decision does to the image.
 ghost use Rattle.std.specs.Prelude.{◌≡◌, ◌+◌, length, replicate};
 ghost use Rattle.endian.specs.Bytes.{put, span};
-ghost use Rattle.edits.specs.Change.{with_table};
+ghost use Rattle.edit_rules.specs.Change.{image_with_table};
 ghost use Rattle.edit.specs.Inner.Decision.{CopyFits, ZeroFits, TableFits, Fits, written_with};
-ghost use Rattle.edit.specs.Inner.Decision.{Into, clipped};
+ghost use Rattle.edit.specs.Inner.Decision.{Into, clipped_image};
 
 use crate::decision::Writing;
 use header::Field;
@@ -11,7 +11,7 @@ use header::Field;
 // unplug's `commit_file_tree`: the table, zeros over the lost tail of the old one, and the new size in the header.
 fn commit(image: &mut [u8], bytes: &[u8], fst_offset: usize, fst_size: usize, size: usize)
     requires { TableFits (length image.old) (length bytes.now) fst_offset fst_size size }
-    ensures { image.new ≡ with_table fst_offset fst_size (span bytes.now 0 size) image.old }
+    ensures { image.new ≡ image_with_table fst_offset fst_size (span bytes.now 0 size) image.old }
 {
     endian::copy(bytes, 0, image, fst_offset, size);
     let tail = fst_size.saturating_sub(size);
@@ -63,7 +63,7 @@ pub(crate) fn write_change(image: &mut [u8], bytes: &[u8], size: usize, writing:
 // No byte may be asked for at a place past the image: an empty file may lie anywhere.
 pub(crate) fn put_clip(image: &mut [u8], at: usize, clip: &[u8])
     requires { Into (length image.old) at (length clip.now) }
-    ensures { image.new ≡ clipped image.old at clip.now }
+    ensures { image.new ≡ clipped_image image.old at clip.now }
 {
     let n = clip.len();
     if n == 0 {

@@ -1,7 +1,7 @@
 // What an edit decides on, as a value, and that it is carried out or its refusal handed back.
 
 ghost use Rattle.std.specs.Prelude.{◌≡◌, length};
-ghost use Rattle.edit.specs.Inner.Decision.{CanCarry, number_of, carried_answer, carried_image};
+ghost use Rattle.edit.specs.Inner.Decision.{CanCarry, decision_number, carried_answer, carried_image};
 
 use crate::carry_out;
 use refusal::Refusal;
@@ -65,7 +65,7 @@ impl Decision {
     /// clip.
     fn carry_out(self, image: &mut [u8], bytes: &[u8], clip: &[u8]) -> u32
         requires { CanCarry image.old (length bytes.now) clip.now (Ok self) }
-        ensures number { result ≡ number_of self }
+        ensures number { result ≡ decision_number self }
         ensures image_after { image.new ≡ carried_image (Ok self) bytes.now clip.now image.old }
     {
         match self {

@@ -3,8 +3,8 @@
 
 ghost use Rattle.std.specs.Prelude.{◌≡◌, length};
 ghost use Rattle.tree.specs.Inner.WellFormed.{IsWellFormed};
-ghost use Rattle.edits.specs.Edits as edits_of;
-ghost use Rattle.edits.specs.Edits.{plan_of};
+ghost use Rattle.edit_rules.specs.Edits as edits_of;
+ghost use Rattle.edit_rules.specs.Edits.{plan_of};
 ghost use Rattle.edit.specs.Inner.Decision.{Decides};
 ghost use Rattle.edit.specs.Inner.Walk.{path_verdict};
 
@@ -14,9 +14,7 @@ use opened::OpenDisc;
 use refusal::{Refusal, Verdict};
 use table::Table;
 use table_writing::Growing;
-
-// How many bytes a path may have.
-const PATH_LIMIT: usize = 1024;
+use tree::PATH_LIMIT;
 
 // Kept: a path and the entry that it starts from go side by side, as users give them; both calls use them
 // once.

@@ -1,7 +1,7 @@
 // What a fill decides on: the file is resized to the clip, and then the clip is the file.
 ghost use Rattle.std.specs.Prelude.{◌≡◌, length};
-ghost use Rattle.edits.specs.Edits as edits_of;
-ghost use Rattle.edits.specs.Edits.{plan_of};
+ghost use Rattle.edit_rules.specs.Edits as edits_of;
+ghost use Rattle.edit_rules.specs.Edits.{plan_of};
 ghost use Rattle.edit.specs.Inner.Decision.{DecidesWith};
 ghost use Rattle.edit.specs.Inner.Filling as filling_of;
 

@@ -1,7 +1,7 @@
 // What an insert of a file or a directory decides on.
 
 ghost use Rattle.std.specs.Prelude.{length};
-ghost use Rattle.edits.specs.Edits.{plan_of};
+ghost use Rattle.edit_rules.specs.Edits.{plan_of};
 ghost use Rattle.edit.specs.Inner.Decision.{Decides};
 ghost use Rattle.edit.specs.Asked.{insertion};
 

@@ -1,6 +1,6 @@
 // A list of edits, applied in turn as one call.
 ghost use Rattle.std.specs.Prelude.{length, map};
-ghost use Rattle.edits.specs.Promise.{lent};
+ghost use Rattle.edit_rules.specs.Promise.{loan};
 ghost use Rattle.ledger.specs.Lists.{AppliesInTurn, LedgerHoldsAfter, TellsAfter};
 ghost use Rattle.edit.specs.Asked.{edit_of};
 
@@ -22,14 +22,14 @@ pub fn apply_all(
     edits: &[Edit<'_>],
     answers: &mut [Result<u32, Refusal>],
 ) -> Verdict
-    ensures applied { let before = lent image.old words.old bytes.old totals.old in
-        let after = lent image.new words.new bytes.new totals.new in
+    ensures applied { let before = loan image.old words.old bytes.old totals.old in
+        let after = loan image.new words.new bytes.new totals.new in
         AppliesInTurn (map edit_of edits.now) before after answers.old answers.new result }
-    ensures ledger_holds { let before = lent image.old words.old bytes.old totals.old in
-        let after = lent image.new words.new bytes.new totals.new in
+    ensures ledger_holds { let before = loan image.old words.old bytes.old totals.old in
+        let after = loan image.new words.new bytes.new totals.new in
         LedgerHoldsAfter (length answers.old) (map edit_of edits.now) before after }
-    ensures record_tells { let before = lent image.old words.old bytes.old totals.old in
-        let after = lent image.new words.new bytes.new totals.new in
+    ensures record_tells { let before = loan image.old words.old bytes.old totals.old in
+        let after = loan image.new words.new bytes.new totals.new in
         TellsAfter (length answers.old) (map edit_of edits.now) before after }
 {
     let words = Lent::new(words);

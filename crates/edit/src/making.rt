@@ -2,9 +2,9 @@
 // may be made.
 ghost use Rattle.std.specs.Prelude.{◌≡◌, Ok, false, [], ◌<◌, length};
 ghost use Rattle.tree.specs.Lookup.{components};
-ghost use Rattle.edits.specs.Edits.{make};
-ghost use Rattle.edits.specs.Inner.Troubles.{made_verdict};
-ghost use Rattle.table_writing.specs.Inner.Growing.{tree_of};
+ghost use Rattle.edit_rules.specs.Edits.{make};
+ghost use Rattle.edit_rules.specs.Inner.Troubles.{made_verdict};
+ghost use Rattle.table_writing.specs.Inner.Growing.{growing_tree};
 ghost use Rattle.edit.specs.Inner.Making.{turn_of, CanTurn, Reaches};
 
 use refusal::Refusal;
@@ -15,17 +15,17 @@ use table_writing::{Growing, Kind};
 // that name, or into a directory that is made for it; 9 if there is no room for one.
 #[tactic(auto, unfolding(crate::specs::Inner::Making::turn_of))]
 fn step(table: &mut Growing<'_>, entry: usize, name: &[u8]) -> Result<usize, Refusal>
-    requires { CanTurn (tree_of table.old) entry name.now }
+    requires { CanTurn (growing_tree table.old) entry name.now }
     ensures reaches { let room = length table.old.bytes.now in
-        Reaches (turn_of (tree_of table.old) entry name.now) room table.new result }
+        Reaches (turn_of (growing_tree table.old) entry name.now) room table.new result }
     ensures same_words { table.new.words ≡ table.old.words }
     ensures same_length { length table.new.bytes.now ≡ length table.old.bytes.now }
     ensures same_reference { table.new.bytes.ghost_name ≡ table.old.bytes.ghost_name }
 {
-    if table::stays(name) {
+    if table::is_staying(name) {
         return Ok(entry);
     }
-    if table::goes_back(name) {
+    if table::is_going_back(name) {
         return Ok(table.parent(entry));
     }
     match table.child(entry, name) {
@@ -37,12 +37,12 @@ fn step(table: &mut Growing<'_>, entry: usize, name: &[u8]) -> Result<usize, Ref
 /// Along the components of a path from the entry `start`, to the entry where it ends; 9 once there is no room
 /// for a directory, since there is none for the whole then.
 pub fn make_along(table: &mut Growing<'_>, start: usize, path: &[u8]) -> Result<usize, Refusal>
-    requires start_inside { start < length (tree_of table.old) }
+    requires start_inside { start < length (growing_tree table.old) }
     requires untroubled { let parts = components path.now in
-        made_verdict (make (tree_of table.old) [] start false parts) ≡ Ok tt }
+        made_verdict (make (growing_tree table.old) [] start false parts) ≡ Ok tt }
     ensures reaches { let parts = components path.now in
         let room = length table.old.bytes.now in
-        Reaches (make (tree_of table.old) [] start false parts) room table.new result }
+        Reaches (make (growing_tree table.old) [] start false parts) room table.new result }
     ensures same_words { table.new.words ≡ table.old.words }
     ensures same_length { length table.new.bytes.now ≡ length table.old.bytes.now }
     ensures same_reference { table.new.bytes.ghost_name ≡ table.old.bytes.ghost_name }

@@ -1,9 +1,9 @@
 // What a rewrite and a move decide on, for every image that means the disc.
 ghost use Rattle.std.specs.Prelude.{◌≡◌, List, ℕ, length};
 ghost use Rattle.tree.specs.Insert as insert_of;
-ghost use Rattle.edits.specs.Change.{change};
-ghost use Rattle.edits.specs.Edits as edits_of;
-ghost use Rattle.edits.specs.Edits.{planned, relocate_verdict, relocated, plan_of};
+ghost use Rattle.edit_rules.specs.Change.{change};
+ghost use Rattle.edit_rules.specs.Edits as edits_of;
+ghost use Rattle.edit_rules.specs.Edits.{plan_behind, relocate_verdict, relocation_change, plan_of};
 ghost use Rattle.opened.specs.Opening.{free_of};
 ghost use Rattle.opened.specs.Inner.Disc.{Means};
 ghost use Rattle.edit.specs.Inner.Decision.{InImage, change_with, Decides};
@@ -24,7 +24,7 @@ pub fn rewrite(disc: &OpenDisc<'_>, bytes: &mut [u8]) -> Result<Decision, Refusa
     ensures { let plan = plan_of edits_of.rewrite disc.now.disc in
         Decides plan disc.now (length bytes.old) bytes.new result }
 {
-    let size = place::check_table(disc, bytes.len(), Writing::NOTHING.place)?;
+    let size = place::check_new_table(disc, bytes.len(), Writing::NOTHING.place)?;
     place::write_table(disc.table(), bytes);
     Ok(Decision::Write {
         number: 0,
@@ -48,7 +48,7 @@ pub(crate) fn set_place(
         Decides plan disc.now (length bytes.old) bytes.new result }
 {
     let place = writing.place;
-    let size = place::check_table(disc, bytes.len(), place)?;
+    let size = place::check_new_table(disc, bytes.len(), place)?;
     place::write_table(disc.table(), bytes);
     table_writing::set_place(bytes, number as usize, place.offset, place.size);
     Ok(Decision::Write {
@@ -59,8 +59,8 @@ pub(crate) fn set_place(
 }
 
 // Whether a region would be moved onto itself.
-fn overlaps_itself(old: DiscRegion, new: DiscRegion) -> bool
-    ensures { result ≡ edits_of.overlaps_itself old new }
+fn is_overlapping(old: DiscRegion, new: DiscRegion) -> bool
+    ensures { result ≡ edits_of.is_overlapping old new }
 {
     u64::from(new.offset) < old.end() && u64::from(old.offset) < new.end()
 }
@@ -69,7 +69,7 @@ fn overlaps_itself(old: DiscRegion, new: DiscRegion) -> bool
 fn check_relocate(disc: &OpenDisc<'_>, old: DiscRegion, new: DiscRegion) -> Verdict
     ensures { result ≡ relocate_verdict (free_of disc.now.disc) old new }
 {
-    if overlaps_itself(old, new) {
+    if is_overlapping(old, new) {
         return Err(Refusal::OverlappingMove);
     }
     if disc.max_region_size(new.offset, 0) < new.size {
@@ -102,8 +102,8 @@ pub(crate) fn relocate(
 ) -> Result<Decision, Refusal>
     requires { IsFileOf disc.now file }
     ensures { let nodes = disc.now.disc.nodes in
-        let moved = change file.number (relocated nodes file.number file.place new) in
-        let plan = planned (relocate_verdict (free_of disc.now.disc) file.place new) moved in
+        let moved = change file.number (relocation_change nodes file.number file.place new) in
+        let plan = plan_behind (relocate_verdict (free_of disc.now.disc) file.place new) moved in
         Decides plan disc.now (length bytes.old) bytes.new result }
 {
     check_relocate(disc, file.place, new)?;

@@ -2,7 +2,7 @@
 ghost use Rattle.std.specs.Prelude.{◌≡◌, ◌<◌};
 ghost use Rattle.tree.specs.Table as table_of;
 ghost use Rattle.tree.specs.Table.{nodes_of};
-ghost use Rattle.edits.specs.Edits.{insert_verdict, child_verdict};
+ghost use Rattle.edit_rules.specs.Edits.{insert_verdict, child_verdict};
 
 use refusal::{Refusal, Verdict};
 use table::Table;
@@ -39,7 +39,7 @@ impl NewEntry<'_> {
     }
 
     /// Whether it may be inserted into the table: 15, 13, 17, 19, 12.
-    #[tactic(auto, using(crate::proofs::Counts::entry_count), unfolding(edits::specs::Edits::insert_verdict))]
+    #[tactic(auto, using(crate::proofs::Counts::entry_count), unfolding(edit_rules::specs::Edits::insert_verdict))]
     pub fn check(&self, table: &Table<'_>) -> Verdict
         ensures { result ≡ insert_verdict (nodes_of table.now) self.now.parent self.now.name.now }
     {

@@ -1,11 +1,11 @@
 // One way through every edit: opened, decided, entered in the record that is lent, carried out.
 ghost use Rattle.std.specs.Prelude.{◌≡◌, Ok, length};
 ghost use Rattle.opened.specs.Opening.{opening, disc_of};
-ghost use Rattle.edits.specs.Edits as edits;
-ghost use Rattle.edits.specs.Edits.{planned, plan_of, numbered_as};
-ghost use Rattle.edits.specs.Promise.{lent, only_verdict, Edited};
-ghost use Rattle.ledger.specs.Runs.{Passable};
-ghost use Rattle.edit.specs.Inner.Accounting.{accounted, IsAccountedFor};
+ghost use Rattle.edit_rules.specs.Edits as edits;
+ghost use Rattle.edit_rules.specs.Edits.{plan_behind, plan_of, number_behind};
+ghost use Rattle.edit_rules.specs.Promise.{loan, only_verdict, IsEdited};
+ghost use Rattle.ledger.specs.Runs.{IsPassable};
+ghost use Rattle.edit.specs.Inner.Accounting.{account_with, IsAccountedFor};
 ghost use Rattle.edit.specs.Asked.{edit_of, clip_of};
 ghost use Rattle.edit.specs.Inner.Decides.{IsEditDecided};
 
@@ -88,12 +88,12 @@ fn decide_image(
     edit: Edit<'_>,
 ) -> Result<Decision, Refusal>
     ensures accounted { let opened = opening image.now (length words.old) in
-        let plan = planned opened (plan_of (edit_of edit.entry) (disc_of image.now)) in
+        let plan = plan_behind opened (plan_of (edit_of edit.entry) (disc_of image.now)) in
         let clip = clip_of edit.entry in
         IsAccountedFor plan image.now (length words.old) (length bytes.old) bytes.new clip
-        totals.old (accounted result totals.new) }
+        totals.old (account_with result totals.new) }
     ensures passable { let opened = opening image.now (length words.old) in
-        opened ≡ Ok tt → Passable (edit_of edit.entry) }
+        opened ≡ Ok tt → IsPassable (edit_of edit.entry) }
 {
     let disc = OpenDisc::of_image(image, words)?;
     let decided = decide(&disc, bytes, edit);
@@ -110,11 +110,11 @@ pub fn run(
     totals: &mut Totals,
     edit: Edit<'_>,
 ) -> Result<u32, Refusal>
-    ensures edited { let before = lent image.old words.old bytes.old totals.old in
-        let after = lent image.new words.new bytes.new totals.new in
-        Edited numbered_as (edit_of edit.entry) before after result }
+    ensures edited { let before = loan image.old words.old bytes.old totals.old in
+        let after = loan image.new words.new bytes.new totals.new in
+        IsEdited number_behind (edit_of edit.entry) before after result }
     ensures passable { let opened = opening image.old (length words.old) in
-        opened ≡ Ok tt → Passable (edit_of edit.entry) }
+        opened ≡ Ok tt → IsPassable (edit_of edit.entry) }
 {
     let words = Lent::new(words);
     let bytes = Lent::new(bytes);
@@ -130,9 +130,9 @@ pub fn done(
     totals: &mut Totals,
     edit: Edit<'_>,
 ) -> Verdict
-    ensures { let before = lent image.old words.old bytes.old totals.old in
-        let after = lent image.new words.new bytes.new totals.new in
-        Edited only_verdict (edit_of edit.entry) before after result }
+    ensures { let before = loan image.old words.old bytes.old totals.old in
+        let after = loan image.new words.new bytes.new totals.new in
+        IsEdited only_verdict (edit_of edit.entry) before after result }
 {
     run(image, words, bytes, totals, edit)?;
     Ok(())

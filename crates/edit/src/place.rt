@@ -3,7 +3,7 @@ ghost use Rattle.std.specs.Prelude.{◌≡◌, ◌≤◌, ◌^◌, length, IfOk}
 ghost use Rattle.endian.specs.Bytes.{put};
 ghost use Rattle.tree.specs.Table.{count, nodes_of, encode};
 ghost use Rattle.table_writing.specs.Inner.Valid.{IsValid};
-ghost use Rattle.edits.specs.Change.{place_verdict};
+ghost use Rattle.edit_rules.specs.Change.{place_verdict};
 ghost use Rattle.edit.specs.Inner.Decision.{judged_size};
 
 use opened::OpenDisc;
@@ -13,7 +13,7 @@ use space::DiscRegion;
 /// The tests of a table of `size` bytes, where `room` working bytes are lent: 9 if these are too few, 26 if
 /// it is above the stated maximum, 21 if there is no room for it behind the old table, or before the edited
 /// file's new place.
-#[tactic(auto, unfolding(edits::specs::Change::place_verdict))]
+#[tactic(auto, unfolding(edit_rules::specs::Change::place_verdict))]
 pub fn check_place(disc: &OpenDisc<'_>, room: usize, size: usize, place: DiscRegion) -> Verdict
     ensures { result ≡ place_verdict disc.now.disc room size place }
 {
@@ -25,7 +25,7 @@ pub fn check_place(disc: &OpenDisc<'_>, room: usize, size: usize, place: DiscReg
         return Err(Refusal::TableAboveMaximum);
     }
     let start = disc.start();
-    let most = disc.max_region_size(start, disc.room()) as usize;
+    let most = disc.max_region_size(start, disc.table_size()) as usize;
     if most < size {
         return Err(Refusal::NotEnoughSpace);
     }
@@ -39,7 +39,11 @@ pub fn check_place(disc: &OpenDisc<'_>, room: usize, size: usize, place: DiscReg
 
 /// The tests that an edit ends with, for the tree as it is, and how many bytes its table takes. A tree that
 /// differs in a file's place only has the same size and the same answer.
-pub fn check_table(disc: &OpenDisc<'_>, room: usize, place: DiscRegion) -> Result<usize, Refusal>
+pub fn check_new_table(
+    disc: &OpenDisc<'_>,
+    room: usize,
+    place: DiscRegion,
+) -> Result<usize, Refusal>
     ensures answer { result ≡ judged_size disc.now room place }
     ensures held { IfOk result (λ _. length (encode disc.now.disc.nodes) ≤ room) }
     ensures small { IfOk result (λ _. length (encode disc.now.disc.nodes) ≤ 2 ^ 24) }

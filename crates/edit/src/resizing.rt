@@ -2,9 +2,9 @@
 ghost use Rattle.std.specs.Prelude.{◌≡◌, ◌||◌, length, ◌==◌, nat_le};
 ghost use Rattle.space.specs.MaxRegionSize.{max_region_size};
 ghost use Rattle.space.specs.Allocate.{allocation_of};
-ghost use Rattle.edits.specs.Change.{change};
-ghost use Rattle.edits.specs.Edits as edits_of;
-ghost use Rattle.edits.specs.Edits.{resized, plan_elsewhere, plan_sized, plan_of};
+ghost use Rattle.edit_rules.specs.Change.{change};
+ghost use Rattle.edit_rules.specs.Edits as edits_of;
+ghost use Rattle.edit_rules.specs.Edits.{resize_change, plan_elsewhere, plan_sized, plan_of};
 ghost use Rattle.opened.specs.Opening.{free_of};
 ghost use Rattle.edit.specs.Inner.Decision.{Decides};
 ghost use Rattle.edit.specs.Inner.Files.{IsFileOf};
@@ -34,7 +34,7 @@ fn resize_in_place(
 ) -> Result<Decision, Refusal>
     requires { IsFileOf disc.now file }
     ensures { let nodes = disc.now.disc.nodes in
-        let plan = change file.number (resized nodes file.number file.place new_size) in
+        let plan = change file.number (resize_change nodes file.number file.place new_size) in
         Decides plan disc.now (length bytes.old) bytes.new result }
 {
     let old = file.place;
@@ -66,7 +66,7 @@ fn grow_elsewhere(
         let plan = plan_elsewhere disc.now.disc.nodes free file.number file.place new_size region in
         Decides plan disc.now (length bytes.old) bytes.new result }
 {
-    let region = disc.allocate(new_size, 0x8000)?;
+    let region = disc.allocate(new_size, space::CLUSTER_SIZE)?;
     let new = DiscRegion {
         offset: region.offset,
         size: new_size,

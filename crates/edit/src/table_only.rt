@@ -2,9 +2,9 @@
 // judged and decided on.
 ghost use Rattle.std.specs.Prelude.{◌≡◌, length, IfOk, OnErr};
 ghost use Rattle.table_writing.specs.Inner.Growth.{tree_in, Stands, IsBuilt};
-ghost use Rattle.table_writing.specs.Inner.Growing.{tree_of};
-ghost use Rattle.edits.specs.Change.{change};
-ghost use Rattle.edits.specs.Edits.{table_only};
+ghost use Rattle.table_writing.specs.Inner.Growing.{growing_tree};
+ghost use Rattle.edit_rules.specs.Change.{change};
+ghost use Rattle.edit_rules.specs.Edits.{table_change};
 ghost use Rattle.edit.specs.Inner.Decision.{Decides};
 
 use crate::decision::{Decision, Writing};
@@ -45,7 +45,7 @@ pub fn place_table(
     number: u32,
 ) -> Result<Decision, Refusal>
     requires { table.now.words ≡ disc.now.words }
-    ensures { Decides (change number (table_only (tree_of table.now)))
+    ensures { Decides (change number (table_change (growing_tree table.now)))
         disc.now (length table.now.bytes.now) table.now.bytes.now result }
 {
     place::check_place(disc, table.bytes.len(), table.size, Writing::NOTHING.place)?;

@@ -3,7 +3,7 @@ ghost use Rattle.std.specs.Prelude.{◌≡◌, Ok, ◌<◌, ◌^◌};
 ghost use Rattle.tree.specs.Table as table_of;
 ghost use Rattle.tree.specs.Table.{nodes_of};
 ghost use Rattle.edit.specs.Inner.Walk.{walk_from, step_of, back_step, into_step};
-ghost use Rattle.edit.specs.Inner.Walk.{plain_verdict, directory_verdict, last_verdict};
+ghost use Rattle.edit.specs.Inner.Walk.{plain_name_verdict, directory_verdict, end_verdict};
 
 use refusal::{Refusal, Verdict};
 use std::marker::Model;
@@ -36,7 +36,7 @@ impl<'a> Model for Walk<'a> {
 
 // Whether each unit of a name is one that a name may have: 12.
 fn check_units(name: &[u8]) -> Verdict
-    ensures { result ≡ plain_verdict name.now }
+    ensures { result ≡ plain_name_verdict name.now }
 {
     if table::is_plain(name) {
         Ok(())
@@ -122,10 +122,10 @@ impl<'a> Walk<'a> {
         ensures { result ≡ step_of self.entry name.now }
     {
         self.check_directory()?;
-        if table::stays(name) {
+        if table::is_staying(name) {
             return Ok(self);
         }
-        if table::goes_back(name) {
+        if table::is_going_back(name) {
             return self.back();
         }
         self.into(name)
@@ -133,7 +133,7 @@ impl<'a> Walk<'a> {
 
     /// What the walk comes to where the path ends: 17, then 12.
     pub fn end(self) -> Verdict
-        ensures { result ≡ last_verdict self.entry }
+        ensures { result ≡ end_verdict self.entry }
     {
         self.check_directory()?;
         self.names

@@ -5,10 +5,10 @@ use mathlib.Core.Bool.{Bool, ◌&&◌}
 use mathlib.Core.List.{List, [], ◌∷◌}
 use lib.Dec.{eqb}
 use Rattle.std.specs.Cmp.Lexicographic.{pointwise}
-use Rattle.endian.specs.Bytes.{same_bytes}
+use Rattle.endian.specs.Bytes.{are_same_bytes}
 
-pub pointwise-same : (xs ys : List ℕ) → pointwise eqb xs ys ≡ same_bytes xs ys
-unfolding same_bytes
+pub pointwise-same : (xs ys : List ℕ) → pointwise eqb xs ys ≡ are_same_bytes xs ys
+unfolding are_same_bytes
 pointwise-same [] [] = refl
 pointwise-same [] (y ∷ ys) = refl
 pointwise-same (x ∷ xs) [] = refl

@@ -1,4 +1,3 @@
 -- What the proofs of the functions cite.
-pub mod Turns
 pub mod Parts
 pub mod Compared

@@ -25,11 +25,11 @@ abbrev pub span : List ℕ → ℕ → ℕ → List ℕ
 span s at n = take n (drop at s)
 
 -- the same bytes, one by one
-unfoldable pub same_bytes : List ℕ → List ℕ → Bool
-same_bytes [] [] = true
-same_bytes [] (y ∷ ys) = false
-same_bytes (x ∷ xs) [] = false
-same_bytes (x ∷ xs) (y ∷ ys) = x == y && same_bytes xs ys
+unfoldable pub are_same_bytes : List ℕ → List ℕ → Bool
+are_same_bytes [] [] = true
+are_same_bytes [] (y ∷ ys) = false
+are_same_bytes (x ∷ xs) [] = false
+are_same_bytes (x ∷ xs) (y ∷ ys) = x == y && are_same_bytes xs ys
 
 -- every element is a byte
 abbrev pub AllBytes : List ℕ → Type 0

@@ -4,7 +4,7 @@
 
 ghost use Rattle.std.specs.Prelude.{◌≡◌, [], ◌∷◌, ◌+◌, ◌-◌, ◌*◌, ◌≤◌, ◌<◌, ◌^◌, ◌==◌, slice_index};
 ghost use Rattle.std.specs.Prelude.{min, length, replicate};
-ghost use Rattle.endian.specs.Bytes.{be24, be32, be24_bytes, be32_bytes, put, span, same_bytes};
+ghost use Rattle.endian.specs.Bytes.{be24, be32, be24_bytes, be32_bytes, put, span, are_same_bytes};
 
 /// The byte at `at`.
 pub fn read_u8(s: &[u8], at: usize) -> u8
@@ -122,7 +122,7 @@ pub fn fill(s: &mut [u8], at: usize, n: usize, b: u8)
 pub fn same(a: &[u8], at: usize, b: &[u8], start: usize, n: usize) -> bool
     requires first { at + n ≤ length a.now }
     requires second { start + n ≤ length b.now }
-    ensures { result ≡ same_bytes (span a.now at n) (span b.now start n) }
+    ensures { result ≡ are_same_bytes (span a.now at n) (span b.now start n) }
 {
     a[at..at + n] == b[start..start + n]
 }

@@ -33,12 +33,12 @@ unfoldable pub program_in : List ℕ → DiscRegion
 program_in image = place_of (program_of image)
 
 -- wholly between the header and the table: among the used bytes from 0 up to the table's end
-abbrev pub before_table : ℕ → DiscRegion → Bool
-before_table fst r = nat_le 0x440 r.offset && nat_le (r.offset + r.size) fst
+abbrev pub is_before_table : ℕ → DiscRegion → Bool
+is_before_table fst r = nat_le 0x440 r.offset && nat_le (r.offset + r.size) fst
 
 -- wherever else it lies, a used region of its own: one that begins before the table's end overlaps the bytes before it
 unfoldable pub own_region : ℕ → DiscRegion → DiscRegion
-own_region fst r = if before_table fst r then no_region else r
+own_region fst r = if is_before_table fst r then no_region else r
 
 abbrev pub program_behind : List ℕ → DiscRegion
 program_behind image = own_region (fst_offset image) (program_in image)

@@ -9,6 +9,9 @@ ghost use Rattle.executable.specs.Sections as sections;
 use refusal::Refusal;
 use window::Window;
 
+/// How many bytes the header of an executable has: 0xE4.
+pub const DOL_HEADER_LEN: usize = 0xE4;
+
 /// The header: where each of the 7 text and 11 data sections stands in the file and in memory, and how many
 /// bytes it has.
 // Kept: arrays, since a file has 7 and 11 sections, used or not, as C is given them, and nothing is
@@ -109,7 +112,7 @@ impl DolHeader {
 pub fn size(image: &[u8], at: usize) -> Result<u32, Refusal>
     ensures { result ≡ dol_size_of image.now at }
 {
-    if image.len() < 0xE4 || image.len() - 0xE4 < at {
+    if image.len() < DOL_HEADER_LEN || image.len() - DOL_HEADER_LEN < at {
         return Err(Refusal::InvalidDol);
     }
     let text = largest::<7>(&words_at(image, at), &words_at(image, at + 0x90));
@@ -132,7 +135,7 @@ pub fn read(image: &[u8], at: usize) -> Result<DolAnswer, Refusal>
 pub fn refused_section(image: &[u8], at: usize) -> Option<u32>
     ensures { result ≡ sections.refused_section image.now at }
 {
-    if image.len() < 0xE4 || image.len() - 0xE4 < at {
+    if image.len() < DOL_HEADER_LEN || image.len() - DOL_HEADER_LEN < at {
         return None;
     }
     for i in 0..18 {

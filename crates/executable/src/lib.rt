@@ -4,5 +4,5 @@
 pub mod dol;
 pub mod program;
 
-pub use dol::{DolAnswer, DolHeader, refused_section, size};
+pub use dol::{DOL_HEADER_LEN, DolAnswer, DolHeader, refused_section, size};
 pub use program::{Program, own_region};

@@ -1,7 +1,7 @@
 // The program that a nonzero DOL offset means, and what it takes of the space behind the table.
 ghost use Rattle.std.specs.Prelude.{◌≡◌};
 ghost use Rattle.executable.specs.Program as programs;
-ghost use Rattle.executable.specs.Program.{program_of, place_of, before_table};
+ghost use Rattle.executable.specs.Program.{program_of, place_of};
 ghost use Rattle.executable.specs.Inner.Reading.{program_at};
 
 use crate::dol;
@@ -24,7 +24,7 @@ pub fn read_at(dol_offset: u32, bytes: &[u8], at: usize) -> Program
     if dol_offset == 0 {
         return Ok(None);
     }
-    let size = dol::size(bytes, at)?.max(0xE4);
+    let size = dol::size(bytes, at)?.max(dol::DOL_HEADER_LEN as u32);
     Ok(Some(DiscRegion {
         offset: dol_offset,
         size,
@@ -42,10 +42,10 @@ pub fn read(image: &[u8]) -> Program
 
 // Whether the region lies wholly between the header and the table.
 fn is_before_table(region: DiscRegion, fst_offset: u32) -> bool
-    ensures { result ≡ before_table fst_offset region }
+    ensures { result ≡ programs.is_before_table fst_offset region }
 {
     let end = u64::from(region.offset) + u64::from(region.size);
-    0x440 <= region.offset && end <= u64::from(fst_offset)
+    header::HEADER_LEN as u32 <= region.offset && end <= u64::from(fst_offset)
 }
 
 /// What the program uses besides the bytes up to the table's end: nothing where it lies before the table.

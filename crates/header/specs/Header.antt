@@ -14,18 +14,18 @@ use Rattle.header.specs.Verdicts.{gcn_magic, word_of, header_verdict}
 abbrev pub bytes_of : Field → List ℕ → List ℕ
 bytes_of f image = span image f.at f.len
 
-abbrev pub byte_of : Field → List ℕ → ℕ
-byte_of f image = slice_index image f.at
+abbrev pub byte_in : Field → List ℕ → ℕ
+byte_in f image = slice_index image f.at
 
 -- every field as the image has it
 unfoldable pub header_of : List ℕ → DiscHeader
 header_of image = record {
   game_code = bytes_of game_code_field image;
   maker_code = bytes_of maker_code_field image;
-  disc_id = byte_of disc_id_field image;
-  version = byte_of version_field image;
-  audio_streaming = byte_of audio_streaming_field image;
-  stream_buffer_size = byte_of stream_buffer_size_field image;
+  disc_id = byte_in disc_id_field image;
+  version = byte_in version_field image;
+  audio_streaming = byte_in audio_streaming_field image;
+  stream_buffer_size = byte_in stream_buffer_size_field image;
   unused_00a = bytes_of unused00a_field image;
   wii_magic = word_of wii_magic_field image;
   gcn_magic = word_of gcn_magic_field image;
@@ -69,8 +69,8 @@ blank_header = record {
   unused_43c = 0;
 }
 
-abbrev pub header_read : List ℕ → Result DiscHeader Refusal
-header_read image = result_and (header_verdict image) (Ok (header_of image))
+abbrev pub header_answer : List ℕ → Result DiscHeader Refusal
+header_answer image = result_and (header_verdict image) (Ok (header_of image))
 
 -- ---- written
 

@@ -27,12 +27,12 @@ field_verdict image f =
     (Ok tt)))
 
 -- the fields in order, so that the Wii's magic is tested before the GameCube's
-unfoldable pub fields_verdict : List ℕ → List Field → Verdict
-fields_verdict image [] = Ok tt
-fields_verdict image (f ∷ fs) = first (field_verdict image f) (fields_verdict image fs)
+unfoldable pub all_fields_verdict : List ℕ → List Field → Verdict
+all_fields_verdict image [] = Ok tt
+all_fields_verdict image (f ∷ fs) = first (field_verdict image f) (all_fields_verdict image fs)
 
 unfoldable pub header_verdict : List ℕ → Verdict
-header_verdict image = fields_verdict image fields
+header_verdict image = all_fields_verdict image fields
 
 -- ---- what the header says of the disc
 

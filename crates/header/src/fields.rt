@@ -6,9 +6,12 @@ ghost use Rattle.header.specs.Verdicts.{field_verdict, header_verdict, bounds_ve
 ghost use Rattle.header.specs.Verdicts as verdicts_of;
 ghost use Rattle.header.specs.Verdicts.{table_end};
 ghost use Rattle.header.specs.Inner.Bounds.{bounds_within};
-ghost use Rattle.header.specs.Inner.Judged.{Judged};
+ghost use Rattle.header.specs.Inner.Judged.{IsJudged};
 
 use refusal::{Refusal, Verdict};
+
+/// How many bytes the header has: 0x440.
+pub const HEADER_LEN: usize = 0x440;
 
 /// The word at 0x1C of a GameCube disc.
 pub const GCN_MAGIC: u32 = 0xC2339F3D;
@@ -96,7 +99,7 @@ const FIELDS: [Field; 21] = [
 // The tests made as a field is read.
 #[tactic(auto, using(std::proofs::lemmas::Bool::Decides::nat_tests), unfolding(crate::specs::Verdicts::field_verdict))]
 fn check_field(image: &[u8], f: Field) -> Verdict
-    requires { Judged f }
+    requires { IsJudged f }
     ensures { result ≡ field_verdict image.now f }
 {
     if image.len() < f.at + f.len {
@@ -194,7 +197,7 @@ fn bounds(header: &[u8], image_length: u64) -> Verdict
     ensures { result ≡ bounds_within header.now image_length }
 {
     let end = disc_end(header);
-    if fst_offset(header) < 0x440
+    if fst_offset(header) < HEADER_LEN as u32
         || u64::from(u32::MAX) < end
         || end < table_end(header)
         || image_length < end

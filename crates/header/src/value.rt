@@ -1,11 +1,11 @@
 // The disc header as a value: read, made and written.
 ghost use Rattle.std.specs.Prelude.{◌≡◌, ◌+◌, ◌≤◌, ◌<◌, length};
 ghost use Rattle.endian.specs.Bytes.{put, span};
-ghost use Rattle.header.specs.Header.{header_of, blank_header, header_read, write_verdict, image_with_header};
+ghost use Rattle.header.specs.Header.{header_of, blank_header, header_answer, write_verdict, image_with_header};
 ghost use Rattle.header.specs.Inner.Writing.{put_some};
 
 use crate::fields;
-use crate::fields::Field;
+use crate::fields::{Field, HEADER_LEN};
 use refusal::{Refusal, Verdict};
 
 /// The 21 fields of the header, numbers in the order of this machine.
@@ -71,7 +71,7 @@ impl DiscHeader {
     /// The header of an image, refused as `header::check` refuses it. The game name, the word at 0x18 and the
     /// unused runs are kept as they are.
     pub fn read_from(image: &[u8]) -> Result<DiscHeader, Refusal>
-        ensures { result ≡ header_read image.now }
+        ensures { result ≡ header_answer image.now }
     {
         fields::check(image)?;
         Ok(read_fields(image))
@@ -179,7 +179,7 @@ impl DiscHeader {
         ensures value { result ≡ write_verdict image.old }
         ensures image_after { image.new ≡ image_with_header self image.old }
     {
-        if image.len() < 0x440 {
+        if image.len() < HEADER_LEN {
             return Err(Refusal::HeaderPastImage);
         }
         self.write_codes(image);

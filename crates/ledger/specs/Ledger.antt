@@ -6,7 +6,7 @@ use Rattle.tree.specs.Table.{Node, file, directory}
 use Rattle.tree.specs.Lookup.{components}
 use Rattle.tree.specs.Insert.{insert_at, set_place, empty_file, empty_directory}
 use Rattle.opened.specs.Opening.{nodes_in}
-use Rattle.edits.specs.Edits.{Edit, insert_file, insert_directory, make_directories, move_file, resize_file, fill_file, rewrite, new_number, Made, stopped, made, make}
+use Rattle.edit_rules.specs.Edits.{Edit, insert_file, insert_directory, make_directories, move_file, resize_file, fill_file, rewrite, new_number, Made, stopped, made, make}
 
 -- of a file: its starting place and bytes; m, how many of them it still begins with; whether an edit named it
 pub record History : Type 0 where
@@ -22,9 +22,9 @@ pub record Ledger : Type 0 where
   pub histories : List History
 
 -- an entry without its place
-abbrev pub bare : Node → Node
-bare (file nm offset size) = file nm 0 size
-bare (directory nm next) = directory nm next
+abbrev pub node_without_place : Node → Node
+node_without_place (file nm offset size) = file nm 0 size
+node_without_place (directory nm next) = directory nm next
 
 -- how many files there are among the first k entries
 unfoldable pub files_before : ℕ → List Node → ℕ
@@ -50,7 +50,7 @@ first_histories image (file nm offset size ∷ xs) =
 first_histories image (directory nm next ∷ xs) = first_histories image xs
 
 abbrev pub first_ledger : List ℕ → Ledger
-first_ledger image = record { nodes = map bare (nodes_in image); histories = first_histories image (nodes_in image) }
+first_ledger image = record { nodes = map node_without_place (nodes_in image); histories = first_histories image (nodes_in image) }
 
 -- ---- what an accepted call does to it
 
@@ -61,48 +61,48 @@ put_in (suc j) x [] = x ∷ []
 put_in (suc j) x (y ∷ xs) = y ∷ put_in j x xs
 
 -- by a move
-abbrev pub marked : History → History
-marked h = record { place = h.place; bytes = h.bytes; m = h.m; named = true }
+abbrev pub named_history : History → History
+named_history h = record { place = h.place; bytes = h.bytes; m = h.m; named = true }
 
 -- by a resize to n bytes
-abbrev pub lowered : ℕ → History → History
-lowered n h = record { place = h.place; bytes = h.bytes; m = min h.m n; named = true }
+abbrev pub lowered_history : ℕ → History → History
+lowered_history n h = record { place = h.place; bytes = h.bytes; m = min h.m n; named = true }
 
 -- by a fill: the clip is what the file starts with
-abbrev pub refilled : List ℕ → History → History
-refilled clip h = record { place = h.place; bytes = clip; m = length clip; named = true }
+abbrev pub refilled_history : List ℕ → History → History
+refilled_history clip h = record { place = h.place; bytes = clip; m = length clip; named = true }
 
 -- the histories with that of file k put through f
-abbrev pub on_history : ℕ → (History → History) → Ledger → List History
-on_history k f l = set l.histories (files_before k l.nodes) (f (history_of l k))
+abbrev pub histories_with : ℕ → (History → History) → Ledger → List History
+histories_with k f l = set l.histories (files_before k l.nodes) (f (history_of l k))
 
 -- the tree with the directories of the path, where the walk came to its end
 abbrev pub made_nodes : List Node → Made → List Node
 made_nodes nodes (stopped c) = nodes
 made_nodes nodes (made new k bad) = new
 
-abbrev pub entered : Edit → Ledger → Ledger
+abbrev pub ledger_with : Edit → Ledger → Ledger
 -- the entry becomes the last child
-entered (insert_file p nm) l = record {
+ledger_with (insert_file p nm) l = record {
   nodes = insert_at p (empty_file nm) l.nodes;
   histories = put_in (files_before (new_number l.nodes p) l.nodes) new_history l.histories;
 }
-entered (insert_directory p nm) l = record {
+ledger_with (insert_directory p nm) l = record {
   nodes = insert_at p (empty_directory nm (new_number l.nodes p)) l.nodes;
   histories = l.histories;
 }
 -- a lookup's walk, which adds each directory that is missing as the last child
-entered (make_directories start path) l = record {
+ledger_with (make_directories start path) l = record {
   nodes = made_nodes l.nodes (make l.nodes [] start false (components path));
   histories = l.histories;
 }
 -- both name the file; a resize changes its size
-entered (move_file k to) l = record { nodes = l.nodes; histories = on_history k marked l }
-entered (resize_file k n) l = record { nodes = set_place k 0 n l.nodes; histories = on_history k (lowered n) l }
+ledger_with (move_file k to) l = record { nodes = l.nodes; histories = histories_with k named_history l }
+ledger_with (resize_file k n) l = record { nodes = set_place k 0 n l.nodes; histories = histories_with k (lowered_history n) l }
 -- a fill names it too, and gives it the clip's size
-entered (fill_file k clip) l = record { nodes = set_place k 0 (length clip) l.nodes; histories = on_history k (refilled clip) l }
+ledger_with (fill_file k clip) l = record { nodes = set_place k 0 (length clip) l.nodes; histories = histories_with k (refilled_history clip) l }
 -- nothing that the ledger holds
-entered rewrite l = l
+ledger_with rewrite l = l
 
 -- what the ledger is told of a call
 pub record Report : Type 0 where
@@ -111,4 +111,4 @@ pub record Report : Type 0 where
 
 unfoldable pub ledger_after : List Report → Ledger → Ledger
 ledger_after [] l = l
-ledger_after (r ∷ reports) l = ledger_after reports (if r.accepted then entered r.edit l else l)
+ledger_after (r ∷ reports) l = ledger_after reports (if r.accepted then ledger_with r.edit l else l)

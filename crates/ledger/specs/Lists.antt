@@ -7,10 +7,10 @@ use Rattle.refusal.specs.Refusal.{Verdict, refuse}
 use Rattle.space.specs.declared.totals.Totals.{Totals}
 use Rattle.opened.specs.Opening.{zeros, opening, disc_of}
 use Rattle.disc.specs.Calls.{record_answer}
-use Rattle.edits.specs.Edits.{Edit, plan_of, plan_number, numbered_as, verdict_of, image_after, totals_after}
-use Rattle.edits.specs.Promise.{Lent}
+use Rattle.edit_rules.specs.Edits.{Edit, plan_of, plan_number, number_behind, verdict_of, image_after, totals_after}
+use Rattle.edit_rules.specs.Promise.{Loan}
 use Rattle.ledger.specs.Ledger.{first_ledger, Report, ledger_after}
-use Rattle.ledger.specs.Runs.{Call, image_after_all, reports_of, totals_after_all, accepted_in}
+use Rattle.ledger.specs.Runs.{Call, image_after_all, reports_of, totals_after_all, accepted_count}
 use Rattle.ledger.specs.Theorem.{LedgerHolds, Tells}
 
 -- each edit in turn, on the image and with the record that the one before left, and all with the same working words and bytes
@@ -24,19 +24,19 @@ calls_of (ed ∷ edits) t image words bytes =
 unfoldable pub answers_of : List Call → List ℕ → List (Result ℕ Refusal)
 answers_of [] image = []
 answers_of (c ∷ calls) image =
-    numbered_as (verdict_of c.edit c.totals image c.words c.bytes) (plan_number (plan_of c.edit (disc_of image)))
+    number_behind (verdict_of c.edit c.totals image c.words c.bytes) (plan_number (plan_of c.edit (disc_of image)))
     ∷ answers_of calls (image_after c.edit c.totals image c.words c.bytes)
 
 -- the calls of a list that has room for so many answers: with room for fewer than there are edits there is none
-abbrev pub calls_with : ℕ → List Edit → Lent → List Call
+abbrev pub calls_with : ℕ → List Edit → Loan → List Call
 calls_with room edits l = if nat_lt room (length edits) then [] else calls_of edits l.totals l.image (length l.words) (length l.bytes)
 
 -- what the ledger is told of them
-abbrev pub reports_with : ℕ → List Edit → Lent → List Report
+abbrev pub reports_with : ℕ → List Edit → Loan → List Report
 reports_with room edits l = reports_of (calls_with room edits l) l.image
 
 -- every byte of the image, the record, each answer, and the working memory, which is zero; answers beyond the edits stay as they were
-pub record AppliesInTurn (edits : List Edit) (before after : Lent) (old new : List (Result ℕ Refusal)) (r : Verdict) : Type 0 where
+pub record AppliesInTurn (edits : List Edit) (before after : Loan) (old new : List (Result ℕ Refusal)) (r : Verdict) : Type 0 where
   pub verdict : r ≡ refuse (nat_lt (length old) (length edits)) LimitOrMemory (Ok tt)
   pub image : after.image ≡ image_after_all (calls_with (length old) edits before) before.image
   pub totals : after.totals ≡ totals_after_all before.totals (calls_with (length old) edits before) before.image
@@ -45,13 +45,13 @@ pub record AppliesInTurn (edits : List Edit) (before after : Lent) (old new : Li
   pub bytes : after.bytes ≡ zeros before.bytes
 
 -- an image that opens with the lent words: what holds after any list of calls holds of the image afterwards, by the ledger of these reports
-abbrev pub LedgerHoldsAfter : ℕ → List Edit → Lent → Lent → Type 0
+abbrev pub LedgerHoldsAfter : ℕ → List Edit → Loan → Loan → Type 0
 LedgerHoldsAfter room edits before after =
     opening before.image (length before.words) ≡ Ok tt →
     LedgerHolds (length before.words) before.image after.image (ledger_after (reports_with room edits before) (first_ledger before.image))
 
 -- a record that was made of the image with the lent words: it tells what one made afresh would, and how many edits were accepted since
-abbrev pub TellsAfter : ℕ → List Edit → Lent → Lent → Type 0
+abbrev pub TellsAfter : ℕ → List Edit → Loan → Loan → Type 0
 TellsAfter room edits before after =
     record_answer before.image (length before.words) ≡ Ok before.totals →
-    Tells after.image (length before.words) (accepted_in (reports_with room edits before)) after.totals
+    Tells after.image (length before.words) (accepted_count (reports_with room edits before)) after.totals

@@ -1,9 +1,8 @@
 -- A list of calls on an image: the image after it, what the ledger is told of it, and the record that is handed on through it. Assumes nothing: these are definitions.
-use Rattle.std.specs.Prelude.{ℕ, ◌+◌, ◌^◌, ◌<◌, ◌≤◌, ◌≡◌, not, List, [], ◌∷◌, if◌then◌else◌}
+use Rattle.std.specs.Prelude.{ℕ, ◌+◌, ◌^◌, ◌<◌, ◌≤◌, ◌≡◌, not, List, [], ◌∷◌, if◌then◌else◌, is_err}
 use Rattle.endian.specs.Bytes.{AllBytes}
-use Rattle.refusal.specs.Refusal.{is_refused}
 use Rattle.space.specs.declared.totals.Totals.{Totals}
-use Rattle.edits.specs.Edits.{Edit, insert_file, insert_directory, make_directories, move_file, resize_file, fill_file, rewrite, verdict_of, image_after, totals_after}
+use Rattle.edit_rules.specs.Edits.{Edit, insert_file, insert_directory, make_directories, move_file, resize_file, fill_file, rewrite, verdict_of, image_after, totals_after}
 use Rattle.ledger.specs.Ledger.{Report}
 
 -- a call: an edit, the record that it is handed, which may hold anything, and how many working words and bytes it is lent
@@ -22,7 +21,7 @@ image_after_all (c ∷ calls) image = image_after_all calls (image_after c.edit 
 unfoldable pub reports_of : List Call → List ℕ → List Report
 reports_of [] image = []
 reports_of (c ∷ calls) image =
-    record { edit = c.edit; accepted = not (is_refused (verdict_of c.edit c.totals image c.words c.bytes)) }
+    record { edit = c.edit; accepted = not (is_err (verdict_of c.edit c.totals image c.words c.bytes)) }
     ∷ reports_of calls (image_after c.edit c.totals image c.words c.bytes)
 
 -- ---- the record
@@ -35,29 +34,29 @@ totals_after_all t (c ∷ calls) image =
 
 -- t goes into the first call, and what a call hands back into the next, on the image that it left; the images
 -- are those of `image_after_all`
-abbrev pub HandedOn : Totals → List Call → List ℕ → Type 0
-HandedOn t [] image = Unit {0}
-HandedOn t (c ∷ calls) image =
-    (c.totals ≡ t) × HandedOn (totals_after c.edit c.totals image c.words c.bytes) calls (image_after c.edit c.totals image c.words c.bytes)
+abbrev pub IsHandedOn : Totals → List Call → List ℕ → Type 0
+IsHandedOn t [] image = Unit {0}
+IsHandedOn t (c ∷ calls) image =
+    (c.totals ≡ t) × IsHandedOn (totals_after c.edit c.totals image c.words c.bytes) calls (image_after c.edit c.totals image c.words c.bytes)
 
 -- how many edits were accepted
-unfoldable pub accepted_in : List Report → ℕ
-accepted_in [] = 0
-accepted_in (r ∷ reports) = (if r.accepted then 1 else 0) + accepted_in reports
+unfoldable pub accepted_count : List Report → ℕ
+accepted_count [] = 0
+accepted_count (r ∷ reports) = (if r.accepted then 1 else 0) + accepted_count reports
 
 -- ---- what a call may be
 
 -- numbers of 32 bits, and a clip of bytes
-abbrev pub Passable : Edit → Type 0
-Passable (insert_file p nm) = Unit {0}
-Passable (insert_directory p nm) = Unit {0}
-Passable (make_directories start path) = Unit {0}
-Passable (move_file k to) = to < 2 ^ 32
-Passable (resize_file k n) = n < 2 ^ 32
-Passable (fill_file k clip) = AllBytes clip
-Passable rewrite = Unit {0}
+abbrev pub IsPassable : Edit → Type 0
+IsPassable (insert_file p nm) = Unit {0}
+IsPassable (insert_directory p nm) = Unit {0}
+IsPassable (make_directories start path) = Unit {0}
+IsPassable (move_file k to) = to < 2 ^ 32
+IsPassable (resize_file k n) = n < 2 ^ 32
+IsPassable (fill_file k clip) = AllBytes clip
+IsPassable rewrite = Unit {0}
 
 -- no call is lent more than w words, and its offset or size has 32 bits, or its clip is of bytes
 abbrev pub AllWithin : ℕ → List Call → Type 0
 AllWithin w [] = Unit {0}
-AllWithin w (c ∷ calls) = (c.words ≤ w) × Passable c.edit × AllWithin w calls
+AllWithin w (c ∷ calls) = (c.words ≤ w) × IsPassable c.edit × AllWithin w calls

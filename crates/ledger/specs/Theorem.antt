@@ -7,8 +7,8 @@ use Rattle.std.specs.Prelude.{Ok, slice_index_or}
 use Rattle.std.specs.Prelude.{ℕ, ◌+◌, ◌<◌, ◌≤◌, ◌≡◌, true, false, List, map, length, take}
 use Rattle.endian.specs.Bytes.{put, span, AllBytes}
 use Rattle.header.specs.Verdicts.{dol_offset, fst_size, fst_max_size, table_end, disc_end}
-use Rattle.tree.specs.Table.{file, none}
-use Rattle.space.specs.Used.{end_of, inside, total_size, no_region}
+use Rattle.tree.specs.Table.{file, empty_root}
+use Rattle.space.specs.Used.{end_of, is_inside, total_size, no_region}
 use Rattle.space.specs.Listing.{region_row, listing_of, list_after}
 use Rattle.executable.specs.Program.{program_of, program_in, program_behind}
 use Rattle.space.specs.declared.totals.Totals.{Totals}
@@ -16,10 +16,10 @@ use Rattle.opened.specs.Opening.{table_of, nodes_in, region_of, used_in, free_sp
 use Rattle.disc.specs.Calls.{totals_answer, program_answer, free_regions_answer, free_regions_list, totals_of, record_answer}
 use Rattle.window.specs.Window.{new_window, count_of, buffer_of}
 use Rattle.disc.specs.Files.{open_file_answer}
-use Rattle.edits.specs.Edits.{fill_file, verdict_of, image_after}
-use Rattle.ledger.specs.Ledger.{Ledger, bare, files_before, history_of, first_ledger, ledger_after}
-use Rattle.ledger.specs.Runs.{Call, image_after_all, reports_of, totals_after_all, HandedOn, accepted_in, AllWithin}
-use Rattle.ledger.specs.Spared.{number_after, Spared}
+use Rattle.edit_rules.specs.Edits.{fill_file, verdict_of, image_after}
+use Rattle.ledger.specs.Ledger.{Ledger, node_without_place, files_before, history_of, first_ledger, ledger_after}
+use Rattle.ledger.specs.Runs.{Call, image_after_all, reports_of, totals_after_all, IsHandedOn, accepted_count, AllWithin}
+use Rattle.ledger.specs.Spared.{number_after, IsSpared}
 
 -- of the file with entry number k, which lies at `offset` and has `size` bytes, by its history in the ledger
 pub record TrueTo (image : List ℕ) (l : Ledger) (k offset size : ℕ) : Type 0 where
@@ -43,9 +43,9 @@ pub record SameProgram (first last : List ℕ) : Type 0 where
 pub record LedgerHolds (w : ℕ) (first image : List ℕ) (l : Ledger) : Type 0 where
   pub opens : opening image w ≡ Ok tt
   -- opening reads the ledger's names, kinds, nesting, order and sizes
-  pub tree : map bare (nodes_in image) ≡ l.nodes
+  pub tree : map node_without_place (nodes_in image) ≡ l.nodes
   -- no two used regions share a byte: used regions i and j that both have byte n are one
-  pub apart : (i j n : ℕ) → inside (slice_index_or (used_in image) i no_region) n ≡ true → inside (slice_index_or (used_in image) j no_region) n ≡ true → i ≡ j
+  pub apart : (i j n : ℕ) → is_inside (slice_index_or (used_in image) i no_region) n ≡ true → is_inside (slice_index_or (used_in image) j no_region) n ≡ true → i ≡ j
   -- table end + the program where it is a region of its own + all file sizes + all free bytes = disc end
   pub sum : table_end image + (program_behind image).size + total_size (map region_of (nodes_in image)) + total_size (free_space_of image) ≡ disc_end image
   -- what is reported of used and free bytes is what is defined of them
@@ -56,7 +56,7 @@ pub record LedgerHolds (w : ℕ) (first image : List ℕ) (l : Ledger) : Type 0 
   pub program : SameProgram first image
   pub program-reported : program_answer image w ≡ program_of first
   -- each file is true to its history
-  pub files : (k : ℕ) (nm : List ℕ) (offset size : ℕ) → slice_index_or (nodes_in image) k none ≡ file nm offset size → TrueTo image l k offset size
+  pub files : (k : ℕ) (nm : List ℕ) (offset size : ℕ) → slice_index_or (nodes_in image) k empty_root ≡ file nm offset size → TrueTo image l k offset size
 
 -- THEOREM: an image of bytes that opening accepts with w₀ words, any list of calls, and w words, which are no fewer than w₀ and than any call of
 -- the list was lent
@@ -72,14 +72,14 @@ pub record StillThere (first last : List ℕ) (f : ℕ) (nm : List ℕ) (offset 
   -- its entry number now; it is file f of them
   pub entry : ℕ
   pub number : files_before entry (nodes_in last) ≡ f
-  pub lies : slice_index_or (nodes_in last) entry none ≡ file nm offset size
+  pub lies : slice_index_or (nodes_in last) entry empty_root ≡ file nm offset size
   pub bytes : span last offset size ≡ span first offset size
 
 -- THEOREM
 abbrev pub UnnamedStays : Type 0
 UnnamedStays =
     (image : List ℕ) (w₀ w : ℕ) (calls : List Call) → AllBytes image → opening image w₀ ≡ Ok tt → w₀ ≤ w → AllWithin w calls →
-    (k : ℕ) (nm : List ℕ) (offset size : ℕ) → slice_index_or (nodes_in image) k none ≡ file nm offset size → Spared (reports_of calls image) (first_ledger image) (files_before k (nodes_in image)) →
+    (k : ℕ) (nm : List ℕ) (offset size : ℕ) → slice_index_or (nodes_in image) k empty_root ≡ file nm offset size → IsSpared (reports_of calls image) (first_ledger image) (files_before k (nodes_in image)) →
     StillThere image (image_after_all calls image) (number_after (reports_of calls image) (first_ledger image) (files_before k (nodes_in image))) nm offset size
 
 -- ---- after an accepted fill the file is the clip
@@ -107,8 +107,8 @@ pub record Tells (image : List ℕ) (w n : ℕ) (t : Totals) : Type 0 where
 -- THEOREM: a record that was made of the first image, and any list of calls through which it is handed on
 abbrev pub RecordTells : Type 0
 RecordTells =
-    (image : List ℕ) (w₀ w : ℕ) (t : Totals) (calls : List Call) → AllBytes image → record_answer image w₀ ≡ Ok t → w₀ ≤ w → AllWithin w calls → HandedOn t calls image →
-    Tells (image_after_all calls image) w (accepted_in (reports_of calls image)) (totals_after_all t calls image)
+    (image : List ℕ) (w₀ w : ℕ) (t : Totals) (calls : List Call) → AllBytes image → record_answer image w₀ ≡ Ok t → w₀ ≤ w → AllWithin w calls → IsHandedOn t calls image →
+    Tells (image_after_all calls image) w (accepted_count (reports_of calls image)) (totals_after_all t calls image)
 
 -- ---- no edit writes a table above the stated maximum
 

@@ -19,25 +19,25 @@ use Rattle.tree.proofs.Laws.Accepted.{length-nodes_of}
 use Rattle.space.specs.Used.{total_size}
 use Rattle.space.specs.Laws.SortLaws.{same_total}
 use Rattle.space.specs.Inner.Sort.{SameSums}
-use Rattle.space.specs.Inner.UsedSpace.{UsedSpace, free_in}
+use Rattle.space.specs.Inner.UsedSpace.{UsedSpace, free_space_in}
 use Rattle.opened.specs.Opening.{opening, Disc, free_of}
 use Rattle.opened.specs.Inner.Disc.{Opened, Means}
 use Rattle.opened.proofs.Laws.Meant.{end_meant, nodes_meant, total_meant, free_meant}
-use Rattle.listing.specs.Inner.Fits.{IsLaid, size_or, listed_or, laid_or, text_of}
-use Rattle.opened.specs.Answers.{behind}
-use Rattle.listing.specs.Lines.{totals_line, entry_lines, region_lines}
+use Rattle.listing.specs.Inner.Fits.{IsLaid, size_or, listed_or, laid_or, disc_text}
+use Rattle.opened.specs.Answers.{answer_behind}
+use Rattle.listing.specs.Lines.{totals_line, lines_below, lines_of_regions}
 use Rattle.listing.specs.Listing.{listing_text, listing_verdict, list_answer, list_buffer, refused_text, report_verdict, report_text, report_answer, report_buffer}
 use Rattle.listing.specs.Inner.Writing.{Wrote}
 
 -- the lines of a disc, from its table and its used regions
-pub text-is : (d : Disc) (tab : List ℕ) (u : UsedSpace) → u.disc_end ≡ d.end → nodes_of tab ≡ d.nodes → SameSums u.regions d.used → free_in u ≡ free_of d →
-    totals_line u.disc_end (total_size u.regions) ++ (entry_lines (nodes_of tab) (count tab) ++ region_lines (free_in u)) ≡ text_of d
-unfolding text_of
+pub text-is : (d : Disc) (tab : List ℕ) (u : UsedSpace) → u.disc_end ≡ d.end → nodes_of tab ≡ d.nodes → SameSums u.regions d.used → free_space_in u ≡ free_of d →
+    totals_line u.disc_end (total_size u.regions) ++ (lines_below (nodes_of tab) (count tab) ++ lines_of_regions (free_space_in u)) ≡ disc_text d
+unfolding disc_text
 text-is d tab u e n s f = rw (f, e, same_total u.regions d.used s, ← length-nodes_of tab, n)
 
 -- the lines of an image that means the disc
-pub text-meant : (image : List ℕ) (d : Opened) → Means image d → text_of d.disc ≡ listing_text image
-unfolding listing_text text_of
+pub text-meant : (image : List ℕ) (d : Opened) → Means image d → disc_text d.disc ≡ listing_text image
+unfolding listing_text disc_text
 text-meant image d m = rw (free_meant image d m, end_meant image d m, total_meant image d m, nodes_meant image d m)
 
 -- ---- measured with no buffer to speak of, then written
@@ -81,19 +81,19 @@ module _ (image : List ℕ) (words : ℕ) (text : List ℕ) where
     passes : opening image words ≡ Ok tt
     passes = rw o.1 at o.0.known.passed
 
-    pub list-opened : (r : Result ℕ Refusal) → r ≡ listed_or (length text) (text_of d.disc) → r ≡ list_answer image words (length text)
+    pub list-opened : (r : Result ℕ Refusal) → r ≡ listed_or (length text) (disc_text d.disc) → r ≡ list_answer image words (length text)
     unfolding list_answer listing_verdict
     list-opened r e = go (ltb (length text) (length (listing_text image))) (rw (text-meant image d o.0) at e)
       where
-        go : (t : Bool) → r ≡ cond t (Err LimitOrMemory) (Ok (length (listing_text image))) → r ≡ behind (first (opening image words) (refuse t LimitOrMemory (Ok tt))) Err (Ok (length (listing_text image)))
+        go : (t : Bool) → r ≡ cond t (Err LimitOrMemory) (Ok (length (listing_text image))) → r ≡ answer_behind (first (opening image words) (refuse t LimitOrMemory (Ok tt))) Err (Ok (length (listing_text image)))
         go true q = rw passes q
         go false q = rw passes q
 
-    pub buffer-opened : (text' : List ℕ) → text' ≡ laid_or text (text_of d.disc) → text' ≡ list_buffer image words text
+    pub buffer-opened : (text' : List ℕ) → text' ≡ laid_or text (disc_text d.disc) → text' ≡ list_buffer image words text
     unfolding list_buffer listing_verdict
     buffer-opened text' e = go (ltb (length text) (length (listing_text image))) (rw (text-meant image d o.0) at e)
       where
-        go : (t : Bool) → text' ≡ cond t text (put text 0 (listing_text image)) → text' ≡ behind (first (opening image words) (refuse t LimitOrMemory (Ok tt))) (λ c. text) (put text 0 (listing_text image))
+        go : (t : Bool) → text' ≡ cond t text (put text 0 (listing_text image)) → text' ≡ answer_behind (first (opening image words) (refuse t LimitOrMemory (Ok tt))) (λ c. text) (put text 0 (listing_text image))
         go true q = rw passes q
         go false q = rw passes q
 
@@ -101,22 +101,22 @@ module _ (image : List ℕ) (words : ℕ) (text : List ℕ) where
 
 abbrev pub SmallAnswer : List ℕ → ℕ → List ℕ → Result ℕ Refusal → List ℕ → Type 0
 SmallAnswer image words text r text' =
-    (r ≡ behind (report_verdict image words (length text)) Err (Ok (length (listing_text image)))) × (text' ≡ behind (report_verdict image words (length text)) (λ c. text) (put text 0 (listing_text image)))
+    (r ≡ answer_behind (report_verdict image words (length text)) Err (Ok (length (listing_text image)))) × (text' ≡ answer_behind (report_verdict image words (length text)) (λ c. text) (put text 0 (listing_text image)))
 
 module _ (image : List ℕ) (words : ℕ) (text : List ℕ) where
-  pub large-answer : 65536 < length image → Err LimitOrMemory ≡ behind (report_verdict image words (length text)) Err (Ok (length (listing_text image)))
+  pub large-answer : 65536 < length image → Err LimitOrMemory ≡ answer_behind (report_verdict image words (length text)) Err (Ok (length (listing_text image)))
   unfolding report_verdict
   large-answer h = rw (lt-ltb 65536 (length image) h)
 
-  pub large-buffer : 65536 < length image → text ≡ behind (report_verdict image words (length text)) (λ c. text) (put text 0 (listing_text image))
+  pub large-buffer : 65536 < length image → text ≡ answer_behind (report_verdict image words (length text)) (λ c. text) (put text 0 (listing_text image))
   unfolding report_verdict
   large-buffer h = rw (lt-ltb 65536 (length image) h)
 
-  pub small-answer : (r : Result ℕ Refusal) → length image ≤ 65536 → r ≡ list_answer image words (length text) → r ≡ behind (report_verdict image words (length text)) Err (Ok (length (listing_text image)))
+  pub small-answer : (r : Result ℕ Refusal) → length image ≤ 65536 → r ≡ list_answer image words (length text) → r ≡ answer_behind (report_verdict image words (length text)) Err (Ok (length (listing_text image)))
   unfolding report_verdict list_answer
   small-answer r h a = rw (le-ltb 65536 (length image) h) a
 
-  pub small-buffer : (text' : List ℕ) → length image ≤ 65536 → text' ≡ list_buffer image words text → text' ≡ behind (report_verdict image words (length text)) (λ c. text) (put text 0 (listing_text image))
+  pub small-buffer : (text' : List ℕ) → length image ≤ 65536 → text' ≡ list_buffer image words text → text' ≡ answer_behind (report_verdict image words (length text)) (λ c. text) (put text 0 (listing_text image))
   unfolding report_verdict list_buffer
   small-buffer text' h a = rw (le-ltb 65536 (length image) h) a
 
@@ -136,9 +136,9 @@ module _ (image : List ℕ) (words : ℕ) (text : List ℕ) where
     report-text size e = go (report_verdict image words (length text)) passed-fits s
       where
         go : (v : Verdict) → (v ≡ Ok tt → length (listing_text image) ≤ length text) →
-            (r ≡ behind v Err (Ok (length (listing_text image)))) × (text' ≡ behind v (λ c. text) (put text 0 (listing_text image))) →
-            (size ≡ cond (ltb (length text) (length (behind v refused_text (listing_text image)))) 0 (length (behind v refused_text (listing_text image)))) ×
-            (text' ≡ cond (ltb (length text) (length (behind v refused_text (listing_text image)))) text (put text 0 (behind v refused_text (listing_text image))))
+            (r ≡ answer_behind v Err (Ok (length (listing_text image)))) × (text' ≡ answer_behind v (λ c. text) (put text 0 (listing_text image))) →
+            (size ≡ cond (ltb (length text) (length (answer_behind v refused_text (listing_text image)))) 0 (length (answer_behind v refused_text (listing_text image)))) ×
+            (text' ≡ cond (ltb (length text) (length (answer_behind v refused_text (listing_text image)))) text (put text 0 (answer_behind v refused_text (listing_text image))))
         go (Ok tt) f a =
             let t = le-ltb (length text) (length (listing_text image)) (f refl) in
             let n : size ≡ length (listing_text image) = cc a.0 in
@@ -151,9 +151,9 @@ module _ (image : List ℕ) (words : ℕ) (text : List ℕ) where
     unfolding report_answer report_buffer report_text
     report-refused c e n text'' q = go (report_verdict image words (length text)) s
       where
-        go : (v : Verdict) → (r ≡ behind v Err (Ok (length (listing_text image)))) × (text' ≡ behind v (λ d. text) (put text 0 (listing_text image))) →
-            (n ≡ cond (ltb (length text) (length (behind v refused_text (listing_text image)))) 0 (length (behind v refused_text (listing_text image)))) ×
-            (text'' ≡ cond (ltb (length text) (length (behind v refused_text (listing_text image)))) text (put text 0 (behind v refused_text (listing_text image))))
+        go : (v : Verdict) → (r ≡ answer_behind v Err (Ok (length (listing_text image)))) × (text' ≡ answer_behind v (λ d. text) (put text 0 (listing_text image))) →
+            (n ≡ cond (ltb (length text) (length (answer_behind v refused_text (listing_text image)))) 0 (length (answer_behind v refused_text (listing_text image)))) ×
+            (text'' ≡ cond (ltb (length text) (length (answer_behind v refused_text (listing_text image)))) text (put text 0 (answer_behind v refused_text (listing_text image))))
         go (Ok _) a = let z : ◌≡◌ {A = ℕ} 0 1 = cc a.0 in absurd (omega arith)
         go (Err d) a =
             let d≡ : c ≡ d = cc a.0 in

@@ -9,7 +9,7 @@ use native.Mathlib.Omega.{arith}
 use native.Mathlib.Numerals.{add-one}
 use lib.ListN.{length, get_or, set, replicate, length-set, length-replicate}
 use lib.Seq.{get_or-set_same, get_or-set_other}
-use Rattle.tree.specs.Table.{Node, file, directory, none, parent_below, parent_of, shallow, count, nodes_of}
+use Rattle.tree.specs.Table.{Node, file, directory, empty_root, parent_below, parent_of, is_shallow, count, nodes_of}
 use Rattle.tree.specs.Inner.WellFormed.{IsWellFormed}
 use Rattle.tree.specs.Lookup.{is_directory, next_of}
 use Rattle.tree.proofs.Laws.WellNested.{root_is}
@@ -82,7 +82,7 @@ module _ {nodes : List Node} {dirs : List ℕ} {d k : ℕ} (c : Chain nodes dirs
 
 module _ (nodes : List Node) (dirs : List ℕ) (d k : ℕ) (b : Chain nodes dirs d k × Climbs nodes dirs d k) where
   -- entry k is among those of the last
-  pub shut-found : (n : ℕ) → n ≡ next_of (get_or nodes (get_or dirs (d - 1) 0) none) → k < n → Ends nodes dirs d k
+  pub shut-found : (n : ℕ) → n ≡ next_of (get_or nodes (get_or dirs (d - 1) 0) empty_root) → k < n → Ends nodes dirs d k
   shut-found n e h = record { chain = b.0; last = b.1 ∙ climb-found nodes k (get_or dirs (d - 1) 0) (rw e at h) }
 
   -- only the root is left
@@ -93,7 +93,7 @@ module _ (nodes : List Node) (dirs : List ℕ) (d k : ℕ) (b : Chain nodes dirs
       record { chain = b.0; last = b.1 ∙ climb-end nodes k (get_or dirs (d - 1) 0) e ∙ sym e }
 
   -- it is not: the last is left out
-  pub shut-turn : (n : ℕ) → 1 < d → n ≡ next_of (get_or nodes (get_or dirs (d - 1) 0) none) → n ≤ k → Chain nodes dirs (d - 1) k × Climbs nodes dirs (d - 1) k
+  pub shut-turn : (n : ℕ) → 1 < d → n ≡ next_of (get_or nodes (get_or dirs (d - 1) 0) empty_root) → n ≤ k → Chain nodes dirs (d - 1) k × Climbs nodes dirs (d - 1) k
   shut-turn n h f l =
       let m : d - 1 - 1 + 1 ≡ d - 1 = omega arith in
       let q = rw m at (b.0.nested (d - 1 - 1) (omega arith)) in (
@@ -107,19 +107,19 @@ module _ {nodes : List Node} {dirs : List ℕ} {d k : ℕ} (a : Ends nodes dirs 
   c : Chain nodes dirs d k
   c = a.chain
 
-  enter-room : shallow nodes ≡ true → is_directory (get_or nodes k none) ≡ true → d < 65
+  enter-room : is_shallow nodes ≡ true → is_directory (get_or nodes k empty_root) ≡ true → d < 65
   enter-room s h =
       let e : depth_of nodes k ≡ suc (depth_of nodes (get_or dirs (d - 1) 0)) = depth-parent nodes k w some few ∙ ap (λ (p : ℕ). suc (depth_of nodes p)) a.last in
       omega (arith, c.some, depth_is c w few (d - 1) (omega (arith, c.some)), directory-depth nodes k w s few h)
 
-  pass-file : is_directory (get_or nodes k none) ≡ false → Climbs nodes dirs d (k + 1)
-  pass-file h = parent-whole nodes (k + 1) ∙ climb-turn nodes (k + 1) k some (omega arith) (ended (get_or nodes k none) h) ∙ ap (λ (p : ℕ). parent_below nodes (k + 1) (p + 1)) a.last
+  pass-file : is_directory (get_or nodes k empty_root) ≡ false → Climbs nodes dirs d (k + 1)
+  pass-file h = parent-whole nodes (k + 1) ∙ climb-turn nodes (k + 1) k some (omega arith) (ended (get_or nodes k empty_root) h) ∙ ap (λ (p : ℕ). parent_below nodes (k + 1) (p + 1)) a.last
     where
       ended : (x : Node) → is_directory x ≡ false → next_of x ≤ k + 1
       ended (file nm offset size) q = omega arith
       ended (directory nm next) q = let z : ◌≡◌ {A = ℕ} 0 1 = cc in absurd (omega arith)
 
-  module _ (h : is_directory (get_or nodes k none) ≡ true) (room : d < 65) where
+  module _ (h : is_directory (get_or nodes k empty_root) ≡ true) (room : d < 65) where
     kept : (i : ℕ) → i < d → get_or (set dirs d k) i 0 ≡ get_or dirs i 0
     kept i q = get_or-set_other dirs d i k 0 (λ e. omega arith)
 
@@ -151,7 +151,7 @@ module _ {nodes : List Node} {dirs : List ℕ} {d k : ℕ} (a : Ends nodes dirs 
 
 -- the same of a table's entries, by the kind that was read
 module _ (tab dirs : List ℕ) (d k : ℕ) (b : Bool) (a : Ends (nodes_of tab) dirs d k) (r : Read tab) (some : 0 < k) (few : k < count tab)
-    (asked : b ≡ is_directory (get_or (nodes_of tab) k none)) where
+    (asked : b ≡ is_directory (get_or (nodes_of tab) k empty_root)) where
   inside : k < length (nodes_of tab)
   inside = rw (length-nodes_of tab) few
 

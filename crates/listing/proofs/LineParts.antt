@@ -7,11 +7,11 @@ use mathlib.Core.List.{List, [], ◌∷◌, ◌++◌, append-nil, append_assoc}
 use native.Mathlib.Omega.{arith}
 use lib.ListN.{length, get_or, take, drop, length-drop}
 use lib.Seq.{get_or-take, get_or-drop, length-take-le}
-use Rattle.tree.specs.Table.{Node, file, directory, name_of, none, count, up_to0, nodes_of, parent_of}
+use Rattle.tree.specs.Table.{Node, file, directory, name_of, empty_root, count, first_text, nodes_of, parent_of}
 use Rattle.tree.specs.Lookup.{is_directory}
-use Rattle.table.specs.Inner.Fields.{offset_of, last_of}
-use Rattle.listing.specs.Lines.{totals_line, ending, entry_fields, line_feed, path_of, entry_line, entry_lines}
-use Rattle.listing.specs.Decimal.{field}
+use Rattle.table.specs.Inner.Fields.{offset_of, size_or_next_of}
+use Rattle.listing.specs.Lines.{totals_line, ending, entry_fields, line_feed, path_of, entry_line, lines_below}
+use Rattle.listing.specs.Decimal.{number_field}
 use Rattle.listing.specs.Inner.Around.{Ends}
 use Rattle.listing.specs.Inner.Writing.{Appends}
 use Rattle.listing.specs.declared.buffer.TextBuffer.{TextBuffer}
@@ -25,21 +25,21 @@ pair-more kind a b c = rw (append_assoc a b c)
 
 -- ---- the numbers, by the entry's kind
 
-file-fields : (k p l o : ℕ) (x : Node) → is_directory x ≡ false → l ≡ last_of x → o ≡ offset_of x → (0x66 ∷ (field k ++ field o)) ++ field l ≡ entry_fields k p x
-file-fields k p l o (file nm offset size) d e q = rw (e, q) (pair-more 0x66 (field k) (field offset) (field size))
+file-fields : (k p l o : ℕ) (x : Node) → is_directory x ≡ false → l ≡ size_or_next_of x → o ≡ offset_of x → (0x66 ∷ (number_field k ++ number_field o)) ++ number_field l ≡ entry_fields k p x
+file-fields k p l o (file nm offset size) d e q = rw (e, q) (pair-more 0x66 (number_field k) (number_field offset) (number_field size))
 file-fields k p l o (directory nm next) d e q = let z : ◌≡◌ {A = ℕ} 0 1 = cc in absurd (omega arith)
 
-directory-fields : (k p l : ℕ) (x : Node) → is_directory x ≡ true → l ≡ last_of x → (0x64 ∷ (field k ++ field p)) ++ field l ≡ entry_fields k p x
+directory-fields : (k p l : ℕ) (x : Node) → is_directory x ≡ true → l ≡ size_or_next_of x → (0x64 ∷ (number_field k ++ number_field p)) ++ number_field l ≡ entry_fields k p x
 directory-fields k p l (file nm offset size) d e = let z : ◌≡◌ {A = ℕ} 0 1 = cc in absurd (omega arith)
-directory-fields k p l (directory nm next) d e = rw e (pair-more 0x64 (field k) (field p) (field next))
+directory-fields k p l (directory nm next) d e = rw e (pair-more 0x64 (number_field k) (number_field p) (number_field next))
 
 -- the same, written in two parts
 module _ (x : Node) (k p l : ℕ) (text text₁ text₂ : TextBuffer) where
-  pub file-written : is_directory x ≡ false → l ≡ last_of x → (o : ℕ) → o ≡ offset_of x → Appends text text₁ (0x66 ∷ (field k ++ field o)) → Appends text₁ text₂ (field l)
+  pub file-written : is_directory x ≡ false → l ≡ size_or_next_of x → (o : ℕ) → o ≡ offset_of x → Appends text text₁ (0x66 ∷ (number_field k ++ number_field o)) → Appends text₁ text₂ (number_field l)
       → Appends text text₂ (entry_fields k p x)
   file-written d e o q f g = appends-as (appends-join f g) (file-fields k p l o x d e q)
 
-  pub directory-written : is_directory x ≡ true → l ≡ last_of x → Appends text text₁ (0x64 ∷ (field k ++ field p)) → Appends text₁ text₂ (field l)
+  pub directory-written : is_directory x ≡ true → l ≡ size_or_next_of x → Appends text text₁ (0x64 ∷ (number_field k ++ number_field p)) → Appends text₁ text₂ (number_field l)
       → Appends text text₂ (entry_fields k p x)
   directory-written d e f g = appends-as (appends-join f g) (directory-fields k p l x d e)
 
@@ -54,16 +54,16 @@ file-name (file nm offset size) d = sym (append-nil nm)
 file-name (directory nm next) d = let z : ◌≡◌ {A = ℕ} 0 1 = cc in absurd (omega arith)
 
 -- the name written, and what is behind it by the kind that was read
-module _ (tab : List ℕ) (k : ℕ) (text text₁ : TextBuffer) (inside : k < count tab) {nm : List ℕ} (is : nm ≡ name_of (get_or (nodes_of tab) k none)) (f : Appends text text₁ (up_to0 nm)) where
-  name-written : Appends text text₁ (name_of (get_or (nodes_of tab) k none))
-  name-written = appends-as f (ap up_to0 is ∙ whole-name tab k inside)
+module _ (tab : List ℕ) (k : ℕ) (text text₁ : TextBuffer) (inside : k < count tab) {nm : List ℕ} (is : nm ≡ name_of (get_or (nodes_of tab) k empty_root)) (f : Appends text text₁ (first_text nm)) where
+  name-written : Appends text text₁ (name_of (get_or (nodes_of tab) k empty_root))
+  name-written = appends-as f (ap first_text is ∙ whole-name tab k inside)
 
-  pub directory-named : (text₂ : TextBuffer) → is_directory (get_or (nodes_of tab) k none) ≡ true → Appends text₁ text₂ (0x2F ∷ [])
-      → Appends text text₂ (name_of (get_or (nodes_of tab) k none) ++ ending (get_or (nodes_of tab) k none))
-  directory-named text₂ d g = appends-as (appends-join name-written g) (directory-name (get_or (nodes_of tab) k none) d)
+  pub directory-named : (text₂ : TextBuffer) → is_directory (get_or (nodes_of tab) k empty_root) ≡ true → Appends text₁ text₂ (0x2F ∷ [])
+      → Appends text text₂ (name_of (get_or (nodes_of tab) k empty_root) ++ ending (get_or (nodes_of tab) k empty_root))
+  directory-named text₂ d g = appends-as (appends-join name-written g) (directory-name (get_or (nodes_of tab) k empty_root) d)
 
-  pub file-named : is_directory (get_or (nodes_of tab) k none) ≡ false → Appends text text₁ (name_of (get_or (nodes_of tab) k none) ++ ending (get_or (nodes_of tab) k none))
-  file-named d = appends-as name-written (file-name (get_or (nodes_of tab) k none) d)
+  pub file-named : is_directory (get_or (nodes_of tab) k empty_root) ≡ false → Appends text text₁ (name_of (get_or (nodes_of tab) k empty_root) ++ ending (get_or (nodes_of tab) k empty_root))
+  file-named d = appends-as name-written (file-name (get_or (nodes_of tab) k empty_root) d)
 
 -- ---- a path, directory by directory
 
@@ -89,7 +89,7 @@ module _ {nodes : List Node} {dirs : List ℕ} {d k : ℕ} (a : Ends nodes dirs 
     step-nested : i < d → (0 < get_or dirs i 0) × (parent_of nodes (get_or dirs i 0) ≡ get_or dirs (i - 1) 0)
     step-nested h = let n : i - 1 + 1 ≡ i = omega (arith, s.some) in rw n at (a.chain.nested (i - 1) (omega (arith, s.some)))
 
-    pub step-turn : {text' : TextBuffer} → i < d → Appends text text' (name_of (get_or nodes (get_or dirs i 0) none) ++ ending (get_or nodes (get_or dirs i 0) none)) →
+    pub step-turn : {text' : TextBuffer} → i < d → Appends text text' (name_of (get_or nodes (get_or dirs i 0) empty_root) ++ ending (get_or nodes (get_or dirs i 0) empty_root)) →
         Stepping nodes dirs d text₀ text' (i + 1)
     step-turn h w =
         let q = step-nested h in
@@ -97,12 +97,12 @@ module _ {nodes : List Node} {dirs : List ℕ} {d k : ℕ} (a : Ends nodes dirs 
         record {
           some = omega arith;
           few = omega arith;
-          done = s.done ++ (name_of (get_or nodes (get_or dirs i 0) none) ++ ending (get_or nodes (get_or dirs i 0) none));
+          done = s.done ++ (name_of (get_or nodes (get_or dirs i 0) empty_root) ++ ending (get_or nodes (get_or dirs i 0) empty_root));
           wrote = appends-join s.wrote w;
           is =
               rw n
               (sym (path-step nodes (get_or dirs i 0) q.0
-              ∙ ap (λ (p : List ℕ). p ++ (name_of (get_or nodes (get_or dirs i 0) none) ++ ending (get_or nodes (get_or dirs i 0) none))) (ap (path_of nodes) q.1 ∙ sym s.is)));
+              ∙ ap (λ (p : List ℕ). p ++ (name_of (get_or nodes (get_or dirs i 0) empty_root) ++ ending (get_or nodes (get_or dirs i 0) empty_root))) (ap (path_of nodes) q.1 ∙ sym s.is)));
         }
 
     pub step_end : d ≤ i → {text₁ : TextBuffer} → Appends text₁ text₀ (0x20 ∷ 0x2F ∷ []) → Appends text₁ text (0x20 ∷ path_of nodes (parent_of nodes k))
@@ -124,7 +124,7 @@ module _ {nodes : List Node} {dirs : List ℕ} {d k : ℕ} (a : Ends nodes dirs 
     after-named h = rw (at-after h) ((step-nested a s (omega (arith, long-after))).0, a.chain.before (j + 1) (omega (arith, long-after)))
 
     pub after-turn : {text' : TextBuffer} → j < length (take (d - 1) (drop 1 dirs)) →
-        Appends text text' (name_of (get_or nodes (get_or (take (d - 1) (drop 1 dirs)) j 0) none) ++ ending (get_or nodes (get_or (take (d - 1) (drop 1 dirs)) j 0) none)) →
+        Appends text text' (name_of (get_or nodes (get_or (take (d - 1) (drop 1 dirs)) j 0) empty_root) ++ ending (get_or nodes (get_or (take (d - 1) (drop 1 dirs)) j 0) empty_root)) →
         Stepping nodes dirs d text₀ text' (j + 1 + 1)
     after-turn h w = step-turn a s (omega (arith, long-after)) (rw (at-after h) at w)
 
@@ -137,7 +137,7 @@ module _ {nodes : List Node} {dirs : List ℕ} {d k : ℕ} (a : Ends nodes dirs 
 pub record Walking (nodes : List Node) (text₀ text : TextBuffer) (k : ℕ) : Type 0 where
   pub done : List ℕ
   pub wrote : Appends text₀ text done
-  pub is : entry_line nodes 0 ++ done ≡ entry_lines nodes k
+  pub is : entry_line nodes 0 ++ done ≡ lines_below nodes k
 
 pub walk_start : (nodes : List Node) (text : TextBuffer) → Walking nodes text text 1
 walk_start nodes text = record {
@@ -154,20 +154,20 @@ module _ {nodes : List Node} {text₀ text : TextBuffer} {k : ℕ} (s : Walking 
     is = sym (append_assoc (entry_line nodes 0) s.done (entry_line nodes k)) ∙ ap (λ (p : List ℕ). p ++ entry_line nodes k) s.is ∙ one-line-more nodes k;
   }
 
-  pub walk_end : {text₁ : TextBuffer} (c n : ℕ) → c ≡ n → k ≤ c → c ≤ k → Appends text₁ text₀ (entry_line nodes 0) → Appends text₁ text (entry_lines nodes n)
+  pub walk_end : {text₁ : TextBuffer} (c n : ℕ) → c ≡ n → k ≤ c → c ≤ k → Appends text₁ text₀ (entry_line nodes 0) → Appends text₁ text (lines_below nodes n)
   walk_end c n q h l w =
       let e : k ≡ n = omega arith in
-      appends-as (appends-join w s.wrote) (s.is ∙ ap (entry_lines nodes) e)
+      appends-as (appends-join w s.wrote) (s.is ∙ ap (lines_below nodes) e)
 
 -- ---- a whole line
 
-pub root-written : (nodes : List Node) (text text₁ text₂ : TextBuffer) → Appends text text₁ (entry_fields 0 0 (get_or nodes 0 none)) → Appends text₁ text₂ (0x20 ∷ 0x2F ∷ 0x0A ∷ [])
+pub root-written : (nodes : List Node) (text text₁ text₂ : TextBuffer) → Appends text text₁ (entry_fields 0 0 (get_or nodes 0 empty_root)) → Appends text₁ text₂ (0x20 ∷ 0x2F ∷ 0x0A ∷ [])
     → Appends text text₂ (entry_line nodes 0)
 root-written nodes text text₁ text₂ f g = appends-as (appends-join f g) (root_line nodes)
 
 pub entry-written : (nodes : List Node) (p k : ℕ) (text text₁ text₂ text₃ text₄ : TextBuffer) → 0 < k → p ≡ parent_of nodes k
-    → Appends text text₁ (entry_fields k p (get_or nodes k none)) → Appends text₁ text₂ (0x20 ∷ path_of nodes (parent_of nodes k))
-    → Appends text₂ text₃ (name_of (get_or nodes k none) ++ ending (get_or nodes k none)) → Appends text₃ text₄ line_feed → Appends text text₄ (entry_line nodes k)
+    → Appends text text₁ (entry_fields k p (get_or nodes k empty_root)) → Appends text₁ text₂ (0x20 ∷ path_of nodes (parent_of nodes k))
+    → Appends text₂ text₃ (name_of (get_or nodes k empty_root) ++ ending (get_or nodes k empty_root)) → Appends text₃ text₄ line_feed → Appends text text₄ (entry_line nodes k)
 entry-written nodes p k text text₁ text₂ text₃ text₄ some e f g h i =
     appends-as (appends-join (rw e at f) (appends-join g (appends-join h i))) (line-parts nodes k some)
 

@@ -11,5 +11,5 @@ abbrev pub decimal : ℕ → List ℕ
 decimal n = digits (suc n) n
 
 -- a number in a line, behind a space
-abbrev pub field : ℕ → List ℕ
-field n = 0x20 ∷ decimal n
+abbrev pub number_field : ℕ → List ℕ
+number_field n = 0x20 ∷ decimal n

@@ -1,6 +1,6 @@
 // Bytes and numbers written one behind the other into lent bytes.
 ghost use Rattle.std.specs.Prelude.{◌≡◌, [], ◌∷◌, ◌+◌, ◌<◌};
-ghost use Rattle.tree.specs.Table.{up_to0};
+ghost use Rattle.tree.specs.Table.{first_text};
 ghost use Rattle.listing.specs.Decimal as base_ten;
 ghost use Rattle.listing.specs.Inner.Writing.{Appends};
 
@@ -49,7 +49,7 @@ impl<'a> TextBuffer<'a> {
 
     /// The bytes of a text, up to a zero byte or to its end.
     pub fn push_text(&mut self, text: &[u8])
-        ensures { Appends self.old self.new (up_to0 text.now) }
+        ensures { Appends self.old self.new (first_text text.now) }
     {
         for &byte in text {
             if byte == 0 {
@@ -73,7 +73,7 @@ impl<'a> TextBuffer<'a> {
 
     /// A number in base ten behind a space.
     pub fn push_field(&mut self, n: u32)
-        ensures { Appends self.old self.new (base_ten.field n) }
+        ensures { Appends self.old self.new (base_ten.number_field n) }
     {
         self.push(b' ');
         self.push_decimal(n);

@@ -2,9 +2,9 @@
 ghost use Rattle.std.specs.Prelude.{◌≡◌, ℕ, List, length};
 ghost use Rattle.endian.specs.Bytes.{put};
 ghost use Rattle.opened.specs.Opening.{zeros};
-ghost use Rattle.opened.specs.Answers.{behind};
+ghost use Rattle.opened.specs.Answers.{answer_behind};
 ghost use Rattle.listing.specs.Inner.Writing.{Appends};
-ghost use Rattle.listing.specs.Inner.Fits.{IsLaid, size_or_zero, listed_or, laid_or, text_of};
+ghost use Rattle.listing.specs.Inner.Fits.{IsLaid, size_or_zero, listed_or, laid_or, disc_text};
 ghost use Rattle.listing.specs.Listing.{listing_text, list_answer, list_buffer, refused_text};
 ghost use Rattle.listing.specs.Listing.{report_verdict, report_answer, report_buffer};
 
@@ -16,7 +16,7 @@ use table::Table;
 
 // Appends the lines of an open disc.
 fn push_disc(text: &mut TextBuffer<'_>, disc: &OpenDisc<'_>)
-    ensures { Appends text.old text.new (text_of disc.now.disc) }
+    ensures { Appends text.old text.new (disc_text disc.now.disc) }
 {
     let table = Table::new(disc.table());
     let used = disc.used_regions();
@@ -48,8 +48,8 @@ fn put_whole<F: Fn(&mut TextBuffer<'_>)>(text: &mut [u8], put: F) -> Option<usiz
 
 // The listing of an open disc.
 fn list_disc(disc: &OpenDisc<'_>, text: &mut [u8]) -> Result<usize, Refusal>
-    ensures answer { result ≡ listed_or (length text.old) (text_of disc.now.disc) }
-    ensures text_after { text.new ≡ laid_or text.old (text_of disc.now.disc) }
+    ensures answer { result ≡ listed_or (length text.old) (disc_text disc.now.disc) }
+    ensures text_after { text.new ≡ laid_or text.old (disc_text disc.now.disc) }
 {
     put_whole(text, |buffer| push_disc(buffer, disc)).ok_or(Refusal::LimitOrMemory)
 }
@@ -96,18 +96,22 @@ fn write_refused(text: &mut [u8], cause: Refusal) -> usize
     put_whole(text, |buffer| push_refused(buffer, cause)).unwrap_or(0)
 }
 
+/// The listing program takes no more bytes than this: more is 9.
+const INPUT_LIMIT: usize = 65536;
+
 // The listing of an image of at most so many bytes.
 fn list_small(image: &[u8], words: &mut [u32], text: &mut [u8]) -> Result<usize, Refusal>
     ensures answer { result
-        ≡ behind (report_verdict image.now (length words.old) (length text.old)) Err
+        ≡ answer_behind (report_verdict image.now (length words.old) (length text.old)) Err
         (Ok (length (listing_text image.now))) }
     ensures text_after { text.new
-        ≡ behind (report_verdict image.now (length words.old) (length text.old)) (λ c. text.old)
+        ≡ answer_behind (report_verdict image.now (length words.old) (length text.old))
+        (λ c. text.old)
         (put text.old 0 (listing_text image.now)) }
     ensures words_zero { words.new ≡ zeros words.old }
 {
     let lent = Lent::new(words);
-    if 65536 < image.len() {
+    if INPUT_LIMIT < image.len() {
         return Err(Refusal::LimitOrMemory);
     }
     list_image(image, lent.memory, text)

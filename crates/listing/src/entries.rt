@@ -2,9 +2,9 @@
 // a line costs no more than its path: 65 at most, since no directory is deeper than 64.
 ghost use Rattle.std.specs.Prelude.{◌≡◌, ◌∷◌, ◌++◌, ◌+◌, ◌<◌, ◌≤◌, ◌^◌, replicate, slice_index_or};
 ghost use Rattle.tree.specs.Table as table_of;
-ghost use Rattle.tree.specs.Table.{none, nodes_of, name_of, parent_of};
-ghost use Rattle.listing.specs.Lines.{ending, entry_fields, path_of, entry_line, entry_lines};
-ghost use Rattle.listing.specs.Inner.Around.{Before, Around};
+ghost use Rattle.tree.specs.Table.{empty_root, nodes_of, name_of, parent_of};
+ghost use Rattle.listing.specs.Lines.{ending, entry_fields, path_of, entry_line, lines_below};
+ghost use Rattle.listing.specs.Inner.Around.{IsBefore, IsAround};
 ghost use Rattle.listing.specs.Inner.Writing.{Appends};
 
 use crate::buffer::TextBuffer;
@@ -35,8 +35,8 @@ impl Directories {
     // Kept: `while`, which counts no index: it takes off the last of them, as long as that is done.
     fn shut(&mut self, table: &Table<'_>, k: usize)
         requires within { k < table_of.count table.now }
-        requires before { Before (nodes_of table.now) self.old k }
-        ensures { Around (nodes_of table.now) self.new k }
+        requires before { IsBefore (nodes_of table.now) self.old k }
+        ensures { IsAround (nodes_of table.now) self.new k }
     {
         while 1 < self.depth && table.next(self.numbers[self.depth - 1]) <= k {
             self.depth -= 1;
@@ -47,8 +47,8 @@ impl Directories {
     fn enter(&mut self, table: &Table<'_>, k: usize)
         requires not_root { 0 < k }
         requires within { k < table_of.count table.now }
-        requires nested { Around (nodes_of table.now) self.old k }
-        ensures { Before (nodes_of table.now) self.new (k + 1) }
+        requires nested { IsAround (nodes_of table.now) self.old k }
+        ensures { IsBefore (nodes_of table.now) self.new (k + 1) }
     {
         // So that it is known of the table that no directory is deeper.
         let _ = table.len();
@@ -68,7 +68,7 @@ struct Entry<'a> {
     ghost not_root: { 0 < number },
     ghost within: { number < table_of.count table.now },
     ghost few: { number < 2 ^ 32 },
-    ghost nested: { Around (nodes_of table.now) around.now number },
+    ghost nested: { IsAround (nodes_of table.now) around.now number },
 }
 
 impl Entry<'_> {
@@ -109,7 +109,7 @@ fn put_fields(table: &Table<'_>, k: usize, parent: usize, text: &mut TextBuffer<
     requires within { k < table_of.count table.now }
     requires few { k < 2 ^ 32 }
     requires before { parent ≤ k }
-    ensures { let node = slice_index_or (nodes_of table.now) k none in
+    ensures { let node = slice_index_or (nodes_of table.now) k empty_root in
         Appends text.old text.new (entry_fields k parent node) }
 {
     let last = table.last(k);
@@ -126,7 +126,7 @@ fn put_fields(table: &Table<'_>, k: usize, parent: usize, text: &mut TextBuffer<
 // The last part of entry k's path: its name, and `/` if it is a directory.
 fn put_name(table: &Table<'_>, k: usize, text: &mut TextBuffer<'_>)
     requires { k < table_of.count table.now }
-    ensures { let node = slice_index_or (nodes_of table.now) k none in
+    ensures { let node = slice_index_or (nodes_of table.now) k empty_root in
         Appends text.old text.new (name_of node ++ ending node) }
 {
     text.push_text(table.name(k));
@@ -147,7 +147,7 @@ fn put_root(table: &Table<'_>, text: &mut TextBuffer<'_>)
 // Kept: the loop goes over the entries' numbers, by which the table is asked.
 pub fn put_entries(table: &Table<'_>, text: &mut TextBuffer<'_>)
     ensures { Appends text.old text.new
-        (entry_lines (nodes_of table.now) (table_of.count table.now)) }
+        (lines_below (nodes_of table.now) (table_of.count table.now)) }
 {
     let count = table.len();
     let mut around = Directories::root();

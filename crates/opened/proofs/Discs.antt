@@ -14,7 +14,7 @@ use Rattle.tree.specs.Table.{nodes_of}
 use Rattle.tree.proofs.Laws.Accepted.{length-nodes_of}
 use Rattle.table.specs.Inner.Reading.{Opens}
 use Rattle.executable.specs.Program.{program_behind}
-use Rattle.opened.specs.Opening.{table_of, nodes_in, behind_table, used_in, Disc, disc_of, free_of}
+use Rattle.opened.specs.Opening.{table_of, nodes_in, regions_behind_table, used_in, Disc, disc_of, free_of}
 use Rattle.opened.specs.Inner.Prepared.{IsOpen}
 use Rattle.opened.proofs.Laws.OpeningLaws.{table-accepted}
 use Rattle.opened.proofs.Words.{free-below, sorted-below}
@@ -31,7 +31,7 @@ module _ (image header table program : List ℕ) (long : ℕ) (h : HasParts imag
   table_there = h.table_is (head_opens image (length w) o.known.reads)
 
   disc_same : disc_in header table own ≡ disc_of image
-  unfolding nodes_in used_in behind_table
+  unfolding nodes_in used_in regions_behind_table
   disc_same = rw (start_is image header long h.head, size_is image header long h.head, maximum_is image header long h.head, user_is image header long h.head, disc_is image header long h.head, table_there, p)
 
   pub backed : IsBacked header table own w m

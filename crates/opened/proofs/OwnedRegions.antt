@@ -8,13 +8,13 @@ use Rattle.std.proofs.Math.Seq.{take-suc, drop-cons}
 use Rattle.std.proofs.lemmas.List.{drop_all, get_or-take, length-map, length-take-le}
 use Rattle.std.specs.List.{position_from}
 use Rattle.std.specs.Option.{option_or}
-use Rattle.tree.specs.Table.{Node, file, directory, none, count, nodes_of}
+use Rattle.tree.specs.Table.{Node, file, directory, empty_root, count, nodes_of}
 use Rattle.tree.specs.Lookup.{is_directory}
 use Rattle.tree.proofs.Laws.Accepted.{length-nodes_of}
-use Rattle.table.specs.Inner.Fields.{offset_of, last_of}
+use Rattle.table.specs.Inner.Fields.{offset_of, size_or_next_of}
 use Rattle.space.specs.declared.region.DiscRegion.{DiscRegion}
 use Rattle.space.specs.Used.{end_of, no_region}
-use Rattle.space.specs.Layout.{disjoint}
+use Rattle.space.specs.Layout.{are_disjoint}
 use Rattle.opened.specs.Opening.{region_of}
 use Rattle.opened.specs.Faults.{owner_at, conflict_with, first_conflict}
 use Rattle.opened.specs.Inner.Owned.{owned_in}
@@ -36,25 +36,25 @@ module _ (tab : List ℕ) (t : ℕ) (own : DiscRegion) where
   unfolding owned_in
   owned-program i e = rw e refl
 
-  owned-entry : (i : ℕ) → (i ≡ 0 → ⊥) → (i ≡ 1 → ⊥) → get_or (owned_in tab t own) i no_region ≡ region_of (get_or (nodes_of tab) (i - 2) none)
+  owned-entry : (i : ℕ) → (i ≡ 0 → ⊥) → (i ≡ 1 → ⊥) → get_or (owned_in tab t own) i no_region ≡ region_of (get_or (nodes_of tab) (i - 2) empty_root)
   unfolding owned_in
   owned-entry i a b =
       let e : i ≡ suc (suc (i - 2)) = omega arith in
-      ap (λ (j : ℕ). get_or (owned_in tab t own) j no_region) e ∙ get_or-map region_of (nodes_of tab) (i - 2) none
+      ap (λ (j : ℕ). get_or (owned_in tab t own) j no_region) e ∙ get_or-map region_of (nodes_of tab) (i - 2) empty_root
 
-  module _ (i : ℕ) (a : i ≡ 0 → ⊥) (b : i ≡ 1 → ⊥) (d : Bool) (kind : d ≡ is_directory (get_or (nodes_of tab) (i - 2) none)) where
+  module _ (i : ℕ) (a : i ≡ 0 → ⊥) (b : i ≡ 1 → ⊥) (d : Bool) (kind : d ≡ is_directory (get_or (nodes_of tab) (i - 2) empty_root)) where
     pub owned-directory : d ≡ true → record { offset = 0; size = 0 } ≡ get_or (owned_in tab t own) i no_region
-    owned-directory e = sym (owned-entry i a b ∙ go (get_or (nodes_of tab) (i - 2) none) (sym kind ∙ e))
+    owned-directory e = sym (owned-entry i a b ∙ go (get_or (nodes_of tab) (i - 2) empty_root) (sym kind ∙ e))
       where
         go : (x : Node) → is_directory x ≡ true → region_of x ≡ record { offset = 0; size = 0 }
         go (file nm offset size) h = cc
         go (directory nm next) h = refl
 
-    pub owned-file : d ≡ false → (offset size : ℕ) → offset ≡ offset_of (get_or (nodes_of tab) (i - 2) none) → size ≡ last_of (get_or (nodes_of tab) (i - 2) none) →
+    pub owned-file : d ≡ false → (offset size : ℕ) → offset ≡ offset_of (get_or (nodes_of tab) (i - 2) empty_root) → size ≡ size_or_next_of (get_or (nodes_of tab) (i - 2) empty_root) →
         record { offset = offset; size = size } ≡ get_or (owned_in tab t own) i no_region
-    owned-file e offset size p q = rw (p, q) (sym (owned-entry i a b ∙ go (get_or (nodes_of tab) (i - 2) none) (sym kind ∙ e)))
+    owned-file e offset size p q = rw (p, q) (sym (owned-entry i a b ∙ go (get_or (nodes_of tab) (i - 2) empty_root) (sym kind ∙ e)))
       where
-        go : (x : Node) → is_directory x ≡ false → region_of x ≡ record { offset = offset_of x; size = last_of x }
+        go : (x : Node) → is_directory x ≡ false → region_of x ≡ record { offset = offset_of x; size = size_or_next_of x }
         go (file nm offset size) h = refl
         go (directory nm next) h = cc
 
@@ -86,11 +86,11 @@ module _ (e : ℕ) (xs : List DiscRegion) (i : ℕ) (room : i ≤ length xs) (r 
   conflict-past h = rw (h, length-take-le i xs room) refl
 
   module _ (within : (nat_lt 0 r.size && nat_lt e (end_of r)) ≡ false) where
-    pub conflict-shared : (j : ℕ) → position_from (λ x. not (disjoint x r)) 0 (take i xs) ≡ Some j → Some (about.Shared (owner_at j) (owner_at i)) ≡ conflict_with e (take i xs) r
+    pub conflict-shared : (j : ℕ) → position_from (λ x. not (are_disjoint x r)) 0 (take i xs) ≡ Some j → Some (about.Shared (owner_at j) (owner_at i)) ≡ conflict_with e (take i xs) r
     unfolding conflict_with
     conflict-shared j q = rw (within, q, length-take-le i xs room) refl
 
-    pub conflict_none : position_from (λ x. not (disjoint x r)) 0 (take i xs) ≡ None → None ≡ conflict_with e (take i xs) r
+    pub conflict_none : position_from (λ x. not (are_disjoint x r)) 0 (take i xs) ≡ None → None ≡ conflict_with e (take i xs) r
     unfolding conflict_with
     conflict_none q = rw (within, q) refl
 

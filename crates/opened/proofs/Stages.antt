@@ -12,7 +12,7 @@ use Rattle.table.specs.Inner.Reading.{Opens}
 use Rattle.space.specs.declared.region.DiscRegion.{DiscRegion}
 use Rattle.executable.specs.Program.{Program, program_of, place_of, own_region, program_in}
 use Rattle.executable.specs.Sections.{refused_section}
-use Rattle.opened.specs.Opening.{table_of, nodes_in, behind_table}
+use Rattle.opened.specs.Opening.{table_of, nodes_in, regions_behind_table}
 use Rattle.opened.specs.Faults.{owned_regions, first_conflict, about_of}
 use Rattle.opened.specs.Inner.Owned.{owned_in}
 use Rattle.header.specs.Laws.FieldTests.{Bounded}
@@ -58,5 +58,5 @@ module _ (image : List ℕ) (words : ℕ) where
 -- the regions by their table, where it ends, and the program
 pub owned-same : (image tab : List ℕ) (t fst : ℕ) (own : DiscRegion) (p : Program) → tab ≡ table_of image → t ≡ table_end image → p ≡ program_of image → fst ≡ fst_offset image → own ≡ own_region fst (place_of p) →
     owned_in tab t own ≡ owned_regions image
-unfolding owned_in behind_table nodes_in program_in
+unfolding owned_in regions_behind_table nodes_in program_in
 owned-same image tab t fst own p a b c d e = rw (e, d, c, b, a) refl

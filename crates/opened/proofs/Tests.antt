@@ -13,18 +13,18 @@ use Rattle.header.specs.Laws.FieldTests.{Bounded}
 use Rattle.header.specs.Verdicts.{fst_offset, disc_end, table_end}
 use Rattle.tree.specs.Table.{count}
 use Rattle.space.specs.declared.region.DiscRegion.{DiscRegion}
-use Rattle.space.specs.Used.{nonempty, no_region}
+use Rattle.space.specs.Used.{nonempty_regions, no_region}
 use Rattle.space.specs.Inner.Words.{AllNonempty}
-use Rattle.space.specs.Laws.UsedLaws.{nonempty-all}
+use Rattle.space.specs.Laws.UsedLaws.{nonempty_regions-all}
 use Rattle.space.specs.Inner.Sort.{regions_in, sum_of}
-use Rattle.space.specs.Inner.Words.{Checked}
-use Rattle.space.specs.Layout.{disjoint_below, regions_verdict}
+use Rattle.space.specs.Inner.Words.{IsChecked}
+use Rattle.space.specs.Layout.{are_disjoint_below, regions_verdict}
 use Rattle.space.specs.Free.{free_regions}
 use Rattle.space.specs.Laws.MiddleLaws.{below-middle, free-middle, sum-middle, used-middle-same}
-use Rattle.space.specs.Laws.SortLaws.{sum-sorted}
+use Rattle.space.specs.Laws.SortLaws.{sum-sorted_regions}
 use Rattle.executable.specs.Program.{program_of, program_verdict, program_in, own_region, program_behind}
-use Rattle.opened.specs.Opening.{table_of, nodes_in, behind_table, used_in, layout_verdict, opening}
-use Rattle.opened.specs.Inner.Prepared.{verdict_before24, entry_regions, CollectedUsed, SameUse, UsedWords, IsReadable, IsOpen}
+use Rattle.opened.specs.Opening.{table_of, nodes_in, regions_behind_table, used_in, layout_verdict, opening}
+use Rattle.opened.specs.Inner.Prepared.{verdict_before24, regions_from, CollectedUsed, SameUse, UsedWords, IsReadable, IsOpen}
 use Rattle.opened.proofs.Laws.OpeningLaws.{opens, opening-split, program-first}
 use Rattle.opened.proofs.UsedRegions.{regions-of-tree}
 
@@ -55,20 +55,20 @@ module _ (image : List ℕ) (n c : ℕ) (k : IsReadable image n) (g : c ≡ coun
 module _ (image w : List ℕ) (m to c : ℕ) (tab : List ℕ) (program : DiscRegion) (e : tab ≡ table_of image) (f : to ≡ table_end image) (g : c ≡ count (table_of image)) (p : program ≡ program_behind image)
     (k : CollectedUsed tab c to program w m) where
   told : {A : Type 0} (h : List DiscRegion → A) → ((x : DiscRegion) (ys xs : List DiscRegion) → h (xs ++ (x ∷ ys)) ≡ h (x ∷ (xs ++ ys))) → h (regions_in w 0 m) ≡ h (used_in image)
-  unfolding used_in behind_table nodes_in nonempty
+  unfolding used_in regions_behind_table nodes_in nonempty_regions
   told h s =
-      ap h k.list ∙ used-middle-same h s to program (entry_regions tab k.turn (c - k.turn)) (entry_regions tab 1 (k.turn - 1))
+      ap h k.list ∙ used-middle-same h s to program (regions_from tab k.turn (c - k.turn)) (regions_from tab 1 (k.turn - 1))
       ∙ rw (e, f, p, g, ← regions-of-tree (table_of image) k.turn k.from (omega (arith, k.to)))
 
   pub used-words : SameUse (disc_end image) (regions_in w 0 m) (used_in image)
   used-words = record {
-    below = told (disjoint_below (disc_end image)) (λ x ys xs. below-middle x ys (disc_end image) xs);
+    below = told (are_disjoint_below (disc_end image)) (λ x ys xs. below-middle x ys (disc_end image) xs);
     free = told (free_regions (disc_end image)) (λ x ys xs. free-middle x ys (disc_end image) xs);
     sums = λ f. told (sum_of f) (λ x ys xs. sum-middle x ys f xs);
   }
 
   pub regions-full : AllNonempty (regions_in w 0 m)
-  regions-full = rw k.list (nonempty-all (record { offset = 0; size = to } ∷ (entry_regions tab 1 (k.turn - 1) ++ (program ∷ entry_regions tab k.turn (c - k.turn)))))
+  regions-full = rw k.list (nonempty_regions-all (record { offset = 0; size = to } ∷ (regions_from tab 1 (k.turn - 1) ++ (program ∷ regions_from tab k.turn (c - k.turn)))))
 
 -- what the test of the regions asks, after `collect`
 pub regions-room : (image : List ℕ) (n n' m c : ℕ) → IsReadable image n → c ≡ count (table_of image) → m ≤ c + 1 → n' ≡ n → 2 * (c + 2 + m) ≤ n'
@@ -84,7 +84,7 @@ own_is image p fst r e f h = rw (← e, ← f) h
 
 -- the test of the regions, after the others passed
 module _ (image w w' : List ℕ) (words buf m e : ℕ) (v : Verdict) (before : verdict_before24 image words ≡ Ok tt) (program : program_verdict (program_of image) ≡ Ok tt) (used : SameUse (disc_end image) (regions_in w 0 m) (used_in image)) (end : e ≡ disc_end image)
-    (k : Checked w w' buf m e v) (kept : length w' ≡ words) where
+    (k : IsChecked w w' buf m e v) (kept : length w' ≡ words) where
   verdict : v ≡ regions_verdict (disc_end image) (used_in image)
   verdict = rw (end, used.below) at k.answer
 
@@ -99,7 +99,7 @@ module _ (image w w' : List ℕ) (words buf m e : ℕ) (v : Verdict) (before : v
   left-words h = record {
     sorted = rw (← end) (k.ready h);
     free = rw end at k.free ∙ used.free;
-    sums = λ f. rw k.order (sum-sorted (regions_in w 0 m) f ∙ used.sums f);
+    sums = λ f. rw k.order (sum-sorted_regions (regions_in w 0 m) f ∙ used.sums f);
   }
 
   pub left_open : AllBytes image → v ≡ Ok tt → IsOpen image w' m

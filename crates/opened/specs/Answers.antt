@@ -8,14 +8,14 @@ use Rattle.header.specs.Verdicts.{fst_offset, disc_end, fst_size}
 use Rattle.space.specs.MaxRegionSize.{max_region_size}
 use Rattle.opened.specs.Opening.{opening, table_of, free_space_of, used_of}
 use Rattle.tree.specs.Table.{count}
-use Rattle.opened.specs.declared.summary.Disc.{Disc}
+use Rattle.opened.specs.declared.summary.Summary.{Summary}
 
 -- an answer behind tests: the refusal that they give, or the answer
-abbrev pub behind : {A : Type 0} → Verdict → (Refusal → A) → A → A
-behind (Ok _) f a = a
-behind (Err c) f a = f c
+abbrev pub answer_behind : {A : Type 0} → Verdict → (Refusal → A) → A → A
+answer_behind (Ok _) f a = a
+answer_behind (Err c) f a = f c
 
-abbrev pub summary_of : List ℕ → Disc
+abbrev pub summary_of : List ℕ → Summary
 summary_of image = record {
   fst_offset = fst_offset image;
   fst_size = fst_size image;
@@ -25,4 +25,4 @@ summary_of image = record {
 }
 
 unfoldable pub max_region_size_answer : List ℕ → ℕ → ℕ → ℕ → Result ℕ Refusal
-max_region_size_answer image words offset n = behind (opening image words) Err (Ok (max_region_size offset n (free_space_of image)))
+max_region_size_answer image words offset n = answer_behind (opening image words) Err (Ok (max_region_size offset n (free_space_of image)))

@@ -8,11 +8,11 @@ use Rattle.tree.specs.Table.{check}
 use Rattle.tree.specs.Faults.{refused_entry}
 use Rattle.space.specs.declared.region.DiscRegion.{DiscRegion}
 use Rattle.space.specs.Used.{end_of}
-use Rattle.space.specs.Layout.{disjoint}
+use Rattle.space.specs.Layout.{are_disjoint}
 use Rattle.executable.specs.Program.{program_of}
 use Rattle.executable.specs.Sections.{refused_section}
-use Rattle.opened.specs.Opening.{table_of, behind_table, opening}
-use Rattle.opened.specs.Answers.{behind}
+use Rattle.opened.specs.Opening.{table_of, regions_behind_table, opening}
+use Rattle.opened.specs.Answers.{answer_behind}
 use Rattle.opened.specs.declared.faults.Owner.{Owner}
 use Rattle.opened.specs.declared.faults.Owner.TheVariants as owner
 use Rattle.opened.specs.declared.faults.About.{About}
@@ -26,13 +26,13 @@ owner_at (suc zero) = owner.Program
 owner_at (suc (suc k)) = owner.Entry k
 
 abbrev pub owned_regions : List ℕ → List DiscRegion
-owned_regions image = record { offset = 0; size = table_end image } ∷ behind_table image
+owned_regions image = record { offset = 0; size = table_end image } ∷ regions_behind_table image
 
 -- region r behind others, where the disc ends at e: it passes the end, or else shares a byte with the first of them that it does with
 unfoldable pub conflict_with : ℕ → List DiscRegion → DiscRegion → Option About
 conflict_with e before r =
     if nat_lt 0 r.size && nat_lt e (end_of r) then Some (about.PastEnd (owner_at (length before)))
-    else option_map (λ j. about.Shared (owner_at j) (owner_at (length before))) (position_from (λ x. not (disjoint x r)) 0 before)
+    else option_map (λ j. about.Shared (owner_at j) (owner_at (length before))) (position_from (λ x. not (are_disjoint x r)) 0 before)
 
 -- the first such region of rs, which stand behind others
 unfoldable pub first_conflict : ℕ → List DiscRegion → List DiscRegion → Option About
@@ -48,4 +48,4 @@ about_of image words =
 
 -- none where the image opens
 unfoldable pub fault_of : List ℕ → ℕ → Option Fault
-fault_of image words = behind (opening image words) (λ c. Some (record { cause = c; about = about_of image words })) None
+fault_of image words = answer_behind (opening image words) (λ c. Some (record { cause = c; about = about_of image words })) None

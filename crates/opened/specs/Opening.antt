@@ -25,12 +25,12 @@ region_of (file nm offset size) = record { offset = offset; size = size }
 region_of (directory nm next) = record { offset = 0; size = 0 }
 
 -- what is used behind the table, the program first where it is a region of its own
-unfoldable pub behind_table : List ℕ → List DiscRegion
-behind_table image = program_behind image ∷ map region_of (nodes_in image)
+unfoldable pub regions_behind_table : List ℕ → List DiscRegion
+regions_behind_table image = program_behind image ∷ map region_of (nodes_in image)
 
 -- RULES, Free space: the bytes up to the table end, the program where it is a region of its own, each file that is not empty
 unfoldable pub used_in : List ℕ → List DiscRegion
-used_in image = used_regions (table_end image) (behind_table image)
+used_in image = used_regions (table_end image) (regions_behind_table image)
 
 -- 24 before 14
 unfoldable pub layout_verdict : List ℕ → Verdict
@@ -49,15 +49,15 @@ free_space_of image = free_regions (disc_end image) (used_in image)
 
 -- table end, program and files together
 unfoldable pub used_of : List ℕ → ℕ
-used_of image = used_total (table_end image) (behind_table image)
+used_of image = used_total (table_end image) (regions_behind_table image)
 
 -- ---- the disc that an image means, where it opens: all that an edit is decided on
 
 pub record Disc : Type 0 where
-  -- the tree of the table; where the table starts, its size (`room`), and the stated maximum of that
+  -- the tree of the table; where the table starts, its size, and the stated maximum of that
   pub nodes : List Node
   pub start : ℕ
-  pub room : ℕ
+  pub table_size : ℕ
   pub maximum : ℕ
   -- where the disc ends, and its used regions
   pub end : ℕ
@@ -67,7 +67,7 @@ abbrev pub disc_of : List ℕ → Disc
 disc_of image = record {
   nodes = nodes_in image;
   start = fst_offset image;
-  room = fst_size image;
+  table_size = fst_size image;
   maximum = fst_max_size image;
   end = disc_end image;
   used = used_in image;

@@ -3,7 +3,7 @@
 ghost use Rattle.std.specs.Prelude.{◌≡◌, ◌+◌, ◌≤◌, ◌<◌, ◌^◌, [], not, ◌&&◌, length, nat_lt, IfSome};
 ghost use Rattle.tree.specs.Table.{count};
 ghost use Rattle.space.specs.Used.{end_of};
-ghost use Rattle.space.specs.Layout.{disjoint};
+ghost use Rattle.space.specs.Layout.{are_disjoint};
 ghost use Rattle.opened.specs.Faults as faults;
 
 use crate::faults::{About, Owner};
@@ -14,9 +14,9 @@ use table::Table;
 // it stands in the table; one without bytes has no byte to share, as in the definitions.
 
 // Whether two regions have a byte in common.
-#[tactic(auto, unfolding(space::specs::Layout::disjoint))]
+#[tactic(auto, unfolding(space::specs::Layout::are_disjoint))]
 fn overlaps(a: DiscRegion, b: DiscRegion) -> bool
-    ensures { result ≡ not (disjoint a b) }
+    ensures { result ≡ not (are_disjoint a b) }
 {
     a.size != 0 && b.size != 0 && u64::from(b.offset) < a.end() && u64::from(a.offset) < b.end()
 }

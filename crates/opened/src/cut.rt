@@ -30,13 +30,17 @@ pub fn table_of(image: &[u8]) -> &[u8]
 pub fn parts_of(image: &[u8]) -> Parts<'_>
     ensures { ArePartsOf image.now result }
 {
-    let header = cut(image, 0, 0x440);
+    let header = cut(image, 0, header::HEADER_LEN);
     let table = cut(
         image,
         header::fst_offset(image) as usize,
         header::fst_size(image) as usize,
     );
-    let program = cut(image, header::dol_offset(image) as usize, 0xE4);
+    let program = cut(
+        image,
+        header::dol_offset(image) as usize,
+        executable::DOL_HEADER_LEN,
+    );
     Parts {
         header,
         table,

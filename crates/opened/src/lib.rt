@@ -18,4 +18,4 @@ pub use faults::{About, Fault, Owner, subject};
 pub use lent::{Lent, Zero};
 pub use open_disc::OpenDisc;
 pub use parts::Parts;
-pub use summary::{Disc, told};
+pub use summary::{Summary, told};

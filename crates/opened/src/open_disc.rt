@@ -3,16 +3,13 @@ ghost use Rattle.std.specs.Prelude.{◌≡◌, ◌+◌, ◌<◌, ◌^◌, List, 
 ghost use Rattle.tree.specs.Table.{nodes_of};
 ghost use Rattle.table.specs.Inner.Reading.{Opens};
 ghost use Rattle.space.specs.Used.{total_size};
-ghost use Rattle.space.specs.Free.{free_regions};
-ghost use Rattle.space.specs.Inner.Sort.{SameSums, regions_in};
-ghost use Rattle.space.specs.Inner.UsedSpace.{free_in};
-ghost use Rattle.space.specs.Inner.Words.{IsSortedDisjoint};
+ghost use Rattle.space.specs.Inner.Sort.{SameSums};
+ghost use Rattle.space.specs.Inner.UsedSpace.{free_space_in};
 ghost use Rattle.space.specs.MaxRegionSize.{max_region_size};
 ghost use Rattle.space.specs.Allocate.{allocation_of};
-ghost use Rattle.opened.specs.Inner.Prepared.{IsOpen};
 ghost use Rattle.opened.specs.Inner.Parts.{ArePartsOf};
 ghost use Rattle.opened.specs.Opening.{free_of};
-ghost use Rattle.opened.specs.Inner.Disc.{OpensAs, Means, IsTableOf};
+ghost use Rattle.opened.specs.Inner.Disc.{OpensAs, IsTableOf};
 
 use crate::cut::parts_of;
 use crate::parts::Parts;
@@ -106,8 +103,8 @@ impl<'a> OpenDisc<'a> {
     }
 
     /// How many bytes its table has.
-    pub fn room(&self) -> u32
-        ensures { result ≡ self.now.disc.room }
+    pub fn table_size(&self) -> u32
+        ensures { result ≡ self.now.disc.table_size }
     {
         header::fst_size(self.header)
     }
@@ -137,21 +134,10 @@ impl<'a> OpenDisc<'a> {
         endian::read_u32(self.table, 8)
     }
 
-    /// The words that hold its used regions in order, and how many these are.
-    pub fn used_words(&self) -> (&'a [u32], usize)
-        ensures open { (image : List ℕ) → Means image self.now
-            → IsOpen image result.0.now result.1 }
-        ensures sorted { IsSortedDisjoint result.0.now result.1 self.now.disc.end }
-        ensures free { free_regions self.now.disc.end (regions_in result.0.now 0 result.1)
-            ≡ free_of self.now.disc }
-    {
-        (self.words, self.used)
-    }
-
     /// Its used regions, and where it ends.
     pub fn used_regions(&self) -> UsedRegions<'a>
         ensures end { result.disc_end ≡ self.now.disc.end }
-        ensures free { free_in result ≡ free_of self.now.disc }
+        ensures free { free_space_in result ≡ free_of self.now.disc }
         ensures same { SameSums result.regions self.now.disc.used }
     {
         UsedRegions::new(self.words, self.used, self.end())

@@ -7,7 +7,7 @@ use crate::open_disc::OpenDisc;
 /// What opening tells of a disc: offsets and sizes in bytes.
 #[repr(C)]
 #[derive(Clone, Copy, PartialEq, Eq, Debug)]
-pub struct Disc {
+pub struct Summary {
     /// The byte at which the file table starts.
     pub fst_offset: u32,
     /// How many bytes the table has.
@@ -21,12 +21,12 @@ pub struct Disc {
 }
 
 /// What an open disc tells of itself.
-pub fn told(disc: &OpenDisc<'_>) -> Disc
+pub fn told(disc: &OpenDisc<'_>) -> Summary
     ensures { result ≡ told_of disc.now.disc }
 {
-    Disc {
+    Summary {
         fst_offset: disc.start(),
-        fst_size: disc.room(),
+        fst_size: disc.table_size(),
         disc_end: disc.end(),
         entries: disc.entries(),
         used: disc.used_size(),

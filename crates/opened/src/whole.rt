@@ -32,7 +32,7 @@ fn read_program(parts: Parts<'_>) -> Program
     ensures { result ≡ program_of image }
 {
     let offset = header::dol_offset(parts.header);
-    if u64::from(offset) + 0xE4 <= parts.length {
+    if u64::from(offset) + executable::DOL_HEADER_LEN as u64 <= parts.length {
         executable::program::read_at(offset, parts.program, 0)
     } else {
         executable::program::read_at(offset, &[], 0)

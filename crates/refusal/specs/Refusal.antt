@@ -47,7 +47,3 @@ refuse false c later = later
 abbrev pub first : Verdict → Verdict → Verdict
 first (Ok _) later = later
 first (Err c) later = Err c
-
-abbrev pub is_refused : Verdict → Bool
-is_refused (Ok _) = false
-is_refused (Err c) = true

@@ -15,9 +15,10 @@ use Rattle.space.specs.declared.region.DiscRegion.{DiscRegion}
 use Rattle.endian.specs.Bytes.{put}
 use Rattle.space.specs.Used.{end_of, total_size}
 use Rattle.space.specs.Listing.{rows_of, listing_of, list_after}
-use Rattle.space.specs.Inner.Words.{in_sequence, gaps}
+use Rattle.space.specs.Inner.Words.{is_in_sequence, gaps}
 use Rattle.refusal.specs.Laws.Tests.{and_left, and_right}
 use Rattle.space.specs.Laws.LongestLaws.{sequence-le}
+use Rattle.space.specs.Laws.SizeLaws.{total_size-cons}
 
 -- ---- the words of regions
 
@@ -53,13 +54,15 @@ module _ (row : DiscRegion → List ℕ) (rs : List DiscRegion) (l : List ℕ) w
 
 -- ---- summed
 
-pub total-gaps : (at e : ℕ) (xs : List DiscRegion) → in_sequence at e xs ≡ true → total_size xs + total_size (gaps at e xs) ≡ e - at
-unfolding gaps total_size in_sequence
-total-gaps at e [] c = omega arith
+pub total-gaps : (at e : ℕ) (xs : List DiscRegion) → is_in_sequence at e xs ≡ true → total_size xs + total_size (gaps at e xs) ≡ e - at
+unfolding gaps is_in_sequence
+total-gaps at e [] c = unfold total_size in omega arith
 total-gaps at e (x ∷ xs) c =
     omega (
       arith,
-      leb-true at x.offset (and_left (leb at x.offset) (in_sequence (end_of x) e xs) c),
-      sequence-le (end_of x) e xs (and_right (leb at x.offset) (in_sequence (end_of x) e xs) c),
-      total-gaps (end_of x) e xs (and_right (leb at x.offset) (in_sequence (end_of x) e xs) c),
+      leb-true at x.offset (and_left (leb at x.offset) (is_in_sequence (end_of x) e xs) c),
+      sequence-le (end_of x) e xs (and_right (leb at x.offset) (is_in_sequence (end_of x) e xs) c),
+      total-gaps (end_of x) e xs (and_right (leb at x.offset) (is_in_sequence (end_of x) e xs) c),
+      total_size-cons x xs,
+      total_size-cons (record { offset = at; size = x.offset - at }) (gaps (end_of x) e xs),
     )

@@ -17,5 +17,5 @@ totals_verdict t before after =
     (Ok tt)))
 
 -- used bytes move by as much as the image's, the count by one
-unfoldable pub totals_moved : Totals → ℕ → ℕ → ℕ → Totals
-totals_moved t before after largest = record { used = t.used + after - before; largest = largest; edits = t.edits + 1 }
+unfoldable pub moved_totals : Totals → ℕ → ℕ → ℕ → Totals
+moved_totals t before after largest = record { used = t.used + after - before; largest = largest; edits = t.edits + 1 }

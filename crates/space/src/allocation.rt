@@ -3,7 +3,7 @@ ghost use Rattle.std.specs.Prelude.{◌≡◌, ◌<◌, if◌then◌else◌, unw
 ghost use Rattle.std.specs.Option.{ForSome};
 ghost use Rattle.space.specs.Align.{align_up};
 ghost use Rattle.space.specs.Used.{end_of, no_region};
-ghost use Rattle.space.specs.Allocate.{rest, fits, better_of};
+ghost use Rattle.space.specs.Allocate.{rest, is_large_enough, better_of};
 
 use crate::region::DiscRegion;
 
@@ -19,7 +19,7 @@ pub fn align_up(a: u32, align: u32) -> u64
 fn aligned(gap: DiscRegion, size: u32, align: u32) -> Option<DiscRegion>
     requires positive { 0 < align }
     requires gap_end { end_of gap < 4294967296 }
-    ensures { result ≡ (if fits align size gap then Some (rest align gap) else None) }
+    ensures { result ≡ (if is_large_enough align size gap then Some (rest align gap) else None) }
 {
     let start = align_up(gap.offset, align);
     let end = gap.end();

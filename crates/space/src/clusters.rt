@@ -1,7 +1,7 @@
 // The free regions counted in clusters of 0x8000 bytes.
 ghost use Rattle.std.specs.Prelude.{refl};
 ghost use Rattle.std.proofs.Common.{arith};
-ghost use Rattle.space.specs.Inner.Counted.{Counted};
+ghost use Rattle.space.specs.Inner.Counted.{IsCounted};
 ghost use Rattle.space.specs.Listing.{cluster_row};
 
 use crate::allocation;
@@ -19,10 +19,11 @@ pub struct Clusters {
     pub rest: u32,
 }
 
-const CLUSTER_SIZE: u32 = 0x8000;
+/// How many bytes a cluster has: 0x8000.
+pub const CLUSTER_SIZE: u32 = 0x8000;
 
 impl From<DiscRegion> for Clusters {
-    ghost from_gives = { Counted };
+    ghost from_gives = { IsCounted };
 
     fn from(region: DiscRegion) -> Clusters {
         let first = allocation::align_up(region.offset, CLUSTER_SIZE);

@@ -3,10 +3,10 @@
 ghost use Rattle.std.specs.Prelude.{◌≡◌, true};
 ghost use Rattle.std.specs.Iterator.{YieldsFirst, item_count};
 ghost use Rattle.space.specs.Free.{free_regions};
-ghost use Rattle.space.specs.Inner.Words.{AllNonempty, in_sequence};
+ghost use Rattle.space.specs.Inner.Words.{AllNonempty, is_in_sequence};
 
 use crate::region::DiscRegion;
-use crate::regions::Regions;
+use crate::region_list::Regions;
 use std::marker::Model;
 
 /// The free regions, rising: the longest runs of bytes below the disc's end that no used region has.
@@ -23,14 +23,14 @@ pub struct FreeRegions<'a> {
 impl<'a> Model for FreeRegions<'a> {
     ghost use Rattle.std.specs.Prelude.{◌≡◌, true, List};
     ghost use Rattle.space.specs.declared.region.DiscRegion.{DiscRegion};
-    ghost use Rattle.space.specs.Used.{nonempty};
-    ghost use Rattle.space.specs.Inner.Words.{in_sequence, gaps};
+    ghost use Rattle.space.specs.Used.{nonempty_regions};
+    ghost use Rattle.space.specs.Inner.Words.{is_in_sequence, gaps};
 
     ghost Value = { List DiscRegion };
 
-    ghost view = { λ f. nonempty (gaps f.at f.disc_end f.used) };
+    ghost view = { λ f. nonempty_regions (gaps f.at f.disc_end f.used) };
 
-    ghost invariant = { λ f. in_sequence f.at f.disc_end f.used ≡ true };
+    ghost invariant = { λ f. is_in_sequence f.at f.disc_end f.used ≡ true };
 }
 
 impl<'a> FreeRegions<'a> {
@@ -38,7 +38,7 @@ impl<'a> FreeRegions<'a> {
     // Kept: both facts are what `UsedRegions` carries, and its `free_regions` is the one caller.
     pub(crate) fn new(used: Regions<'a>, disc_end: u32) -> Self
         requires nonempty { AllNonempty used }
-        requires in_order { in_sequence 0 disc_end used ≡ true }
+        requires in_order { is_in_sequence 0 disc_end used ≡ true }
         ensures { result ≡ free_regions disc_end used.entry }
     {
         FreeRegions {

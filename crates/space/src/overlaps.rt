@@ -2,15 +2,15 @@
 ghost use Rattle.std.specs.Prelude.{◌≡◌, ◌+◌, ◌*◌, ◌≤◌, length};
 ghost use Rattle.space.specs.Inner.Sort.{regions_in};
 ghost use Rattle.space.specs.Inner.Words as words_of;
-ghost use Rattle.space.specs.Inner.Words.{AllNonempty, Checked};
+ghost use Rattle.space.specs.Inner.Words.{AllNonempty, IsChecked};
 
-use crate::regions::Regions;
+use crate::region_list::Regions;
 use crate::sort;
 use refusal::{Refusal, Verdict};
 
 // Whether each region starts where the one before it ends or later, and the last ends by the disc's end.
-fn in_sequence(regions: Regions<'_>, disc_end: u32) -> bool
-    ensures { result ≡ words_of.in_sequence 0 disc_end regions.entry }
+fn is_in_sequence(regions: Regions<'_>, disc_end: u32) -> bool
+    ensures { result ≡ words_of.is_in_sequence 0 disc_end regions.entry }
 {
     let mut end = 0;
     for region in regions {
@@ -30,10 +30,10 @@ pub fn check(words: &mut [u32], buf: usize, count: usize, disc_end: u32) -> Verd
     requires beside { count ≤ buf }
     requires room { 2 * (buf + count) ≤ length words.old }
     requires nonempty { AllNonempty (regions_in words.old 0 count) }
-    ensures { Checked words.old words.new buf count disc_end result }
+    ensures { IsChecked words.old words.new buf count disc_end result }
 {
     sort::sort(words, buf, count);
-    if in_sequence(Regions::new(words, count), disc_end) {
+    if is_in_sequence(Regions::new(words, count), disc_end) {
         Ok(())
     } else {
         Err(Refusal::OverlappingRegions)

@@ -1,6 +1,6 @@
 // A range of bytes of a disc, and one more of them added to those that stand in lent words.
-ghost use Rattle.std.specs.Prelude.{◌≡◌, ◌+◌, ◌*◌, ◌≤◌, length, replicate};
-ghost use Rattle.space.specs.Inner.Words.{Added};
+ghost use Rattle.std.specs.Prelude.{◌≡◌, ◌+◌, ◌*◌, ◌≤◌, length};
+ghost use Rattle.space.specs.Inner.Words.{IsAdded};
 
 /// A range of bytes of a disc.
 #[repr(C)]
@@ -28,7 +28,7 @@ impl DiscRegion {
 // Kept: a struct over the words would hold just these two, and the number is what the call before gave.
 pub fn add_region(words: &mut [u32], count: usize, offset: u32, size: u32) -> usize
     requires { 2 * count + 2 ≤ length words.old }
-    ensures { Added words.old words.new count offset size result }
+    ensures { IsAdded words.old words.new count offset size result }
 {
     if size == 0 {
         return count;
@@ -36,11 +36,4 @@ pub fn add_region(words: &mut [u32], count: usize, offset: u32, size: u32) -> us
     words[2 * count] = offset;
     words[2 * count + 1] = size;
     count + 1
-}
-
-/// Zeroes all words, as each call leaves them.
-pub fn zero_words(words: &mut [u32])
-    ensures { words.new ≡ replicate (length words.old) 0 }
-{
-    words.fill(0);
 }

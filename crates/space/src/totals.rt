@@ -1,6 +1,6 @@
 // The totals record that goes into an edit and comes back, and the largest free region that an edit leaves.
 ghost use Rattle.std.specs.Prelude.{◌≡◌, ◌<◌, ◌^◌, drop, max, OnOk, OnErr};
-ghost use Rattle.space.specs.Totals.{totals_verdict, totals_moved};
+ghost use Rattle.space.specs.Totals.{totals_verdict, moved_totals};
 ghost use Rattle.space.specs.Inner.Scan as scan_of;
 ghost use Rattle.space.specs.Inner.Scan.{longest_from};
 
@@ -24,12 +24,12 @@ impl Totals {
     /// Moves the record on by an edit that uses `after` bytes where `before` were used, in any two numbers
     /// with that difference, and that leaves `largest` bytes as the largest free region. 25 if used bytes or
     /// edits would leave 32 bits: then the record stays.
-    #[tactic(auto, unfolding(crate::specs::Totals::totals_verdict, crate::specs::Totals::totals_moved))]
+    #[tactic(auto, unfolding(crate::specs::Totals::totals_verdict, crate::specs::Totals::moved_totals))]
     pub fn move_on(&mut self, before: u64, after: u64, largest: u32) -> Verdict
         requires before_fits { before < 2 ^ 34 }
         requires after_fits { after < 2 ^ 34 }
         ensures answer { result ≡ totals_verdict self.old before after }
-        ensures accepted { OnOk result (self.new ≡ totals_moved self.old before after largest) }
+        ensures accepted { OnOk result (self.new ≡ moved_totals self.old before after largest) }
         ensures refused { OnErr result (self.new ≡ self.old) }
     {
         let sum = u64::from(self.used) + after;

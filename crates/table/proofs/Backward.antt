@@ -13,7 +13,7 @@ use Rattle.std.specs.Option.{MatchOption, unwrap_or}
 use Rattle.std.specs.Fn.{CalledAt}
 use Rattle.std.specs.Iterator.{YieldsThen}
 use Rattle.std.specs.List.{FoldsTo}
-use Rattle.tree.specs.Table.{Node, none, parent_below}
+use Rattle.tree.specs.Table.{Node, empty_root, parent_below}
 use Rattle.tree.specs.Lookup.{next_of}
 use Rattle.table.proofs.Nodes.{parent-found, parent-on, parent-none}
 
@@ -23,8 +23,8 @@ module _ {S : Type 0} (steps : S → Option ℕ → S → Type 0) (start end : S
   Down s r t = (start t ≡ start s) × MatchOption r ((end s - start s ≡ 0) × (end t ≡ end s)) (λ x. (0 < end s - start s) × (x ≡ end t) × (end s ≡ end t + 1))
 
   module _ (down : (s t : S) (r : Option ℕ) → steps s r t → Down s r t) (nodes : List Node) (k : ℕ) {F : Type 0} {g : Mut F (Bor ℕ × Unit {0}) Bool} (f : F)
-      (hit : (x : ℕ) (q : F) → CalledAt g f x true q → k < next_of (get_or nodes x none))
-      (miss : (x : ℕ) (q : F) → CalledAt g f x false q → (q ≡ f) × (next_of (get_or nodes x none) ≤ k)) where
+      (hit : (x : ℕ) (q : F) → CalledAt g f x true q → k < next_of (get_or nodes x empty_root))
+      (miss : (x : ℕ) (q : F) → CalledAt g f x false q → (q ≡ f) × (next_of (get_or nodes x empty_root) ≤ k)) where
     last : (s u : S) (r : Option ℕ) (j : F) → f ≡ j → start s ≡ 0 → Down s r u → MatchOption r (Unit {0}) (λ x. (h : F) × CalledAt g j x true h) → parent_below nodes k (end s) ≡ unwrap_or r 0
     last s u None j e z d c = parent-none nodes k (end s) (omega (arith, d.1.0))
     last s u (Some x) j e z d c =

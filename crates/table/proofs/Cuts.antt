@@ -15,7 +15,7 @@ use Rattle.std.specs.Iterator.{Yields, YieldsFirstBy}
 use Rattle.std.specs.List.{FoldsTo}
 use Rattle.endian.specs.Bytes.{span}
 use Rattle.tree.specs.Units.{TextUnit, single, pair, unit_bytes, units}
-use Rattle.tree.specs.Lookup.{separates, longer, components_of, components}
+use Rattle.tree.specs.Lookup.{is_separator_unit, components_with, components_of, components}
 use Rattle.table.proofs.UnitPlaces.{bytes_of, bytes-units}
 use Rattle.table.specs.Inner.Steps.{components_after}
 
@@ -24,16 +24,16 @@ abbrev pub prepend : List ℕ → List (List ℕ) → List (List ℕ)
 prepend s [] = s ∷ []
 prepend s (c ∷ cs) = (s ++ c) ∷ cs
 
-longer-prepend : (u : TextUnit) (s : List ℕ) (cs : List (List ℕ)) → longer u (prepend s cs) ≡ prepend (unit_bytes u ++ s) cs
-longer-prepend u s [] = refl
-longer-prepend u s (c ∷ cs) = rw (append_assoc (unit_bytes u) s c)
+components_with-prepend : (u : TextUnit) (s : List ℕ) (cs : List (List ℕ)) → components_with u (prepend s cs) ≡ prepend (unit_bytes u ++ s) cs
+components_with-prepend u s [] = refl
+components_with-prepend u s (c ∷ cs) = rw (append_assoc (unit_bytes u) s c)
 
 prepend-none : (us : List TextUnit) → prepend [] (components_of us) ≡ components_of us
 unfolding components_of
 prepend-none [] = refl
-prepend-none (u ∷ us) = go (separates u) (components_of us)
+prepend-none (u ∷ us) = go (is_separator_unit u) (components_of us)
   where
-    go : (t : Bool) (cs : List (List ℕ)) → prepend [] (cond t ([] ∷ cs) (longer u cs)) ≡ cond t ([] ∷ cs) (longer u cs)
+    go : (t : Bool) (cs : List (List ℕ)) → prepend [] (cond t ([] ∷ cs) (components_with u cs)) ≡ cond t ([] ∷ cs) (components_with u cs)
     go true cs = refl
     go false [] = refl
     go false (c ∷ cs) = refl
@@ -46,18 +46,18 @@ pub record Walked (us left : List TextUnit) : Type 0 where
   pub whole : bytes_of us ≡ bytes ++ bytes_of left
   pub cut : components_of us ≡ prepend bytes (components_of left)
 
-walked-on : (u : TextUnit) (us left : List TextUnit) → false ≡ separates u → Walked us left → Walked (u ∷ us) left
+walked-on : (u : TextUnit) (us left : List TextUnit) → false ≡ is_separator_unit u → Walked us left → Walked (u ∷ us) left
 unfolding components_of
 walked-on u us left h w =
     record {
       bytes = unit_bytes u ++ w.bytes;
       whole = rw (w.whole, append_assoc (unit_bytes u) w.bytes (bytes_of left)) refl;
-      cut = rw (← h, w.cut) (longer-prepend u w.bytes (components_of left));
+      cut = rw (← h, w.cut) (components_with-prepend u w.bytes (components_of left));
     }
 
 -- a search for a unit that parts, by a closure that tests each
 module _ {A F : Type 0} (v : A → TextUnit) (g : Mut F (Bor A × Unit {0}) Bool) (f : F)
-    (tests : (x : A) (b : Bool) (q : F) → CalledAt g f x b q → (q ≡ f) × (b ≡ separates (v x))) where
+    (tests : (x : A) (b : Bool) (q : F) → CalledAt g f x b q → (q ≡ f) × (b ≡ is_separator_unit (v x))) where
   pub walked : (xs : List A) (us left : List TextUnit) (j : F) → Yields (YieldsFirstBy v (λ rest. rest)) us xs left → FoldsTo (λ p x q. CalledAt g p x false q) f xs j →
       Walked us left × (j ≡ f)
   walked [] us left j y h =
@@ -69,7 +69,7 @@ module _ {A F : Type 0} (v : A → TextUnit) (g : Mut F (Bor A × Unit {0}) Bool
       let w = walked xs y.0 left j y.2 others in
       rw y.1 (walked-on (v x) y.0 left t.1 w.0, w.1)
 
-  pub found-parts : (x : A) (j h : F) → j ≡ f → CalledAt g j x true h → true ≡ separates (v x)
+  pub found-parts : (x : A) (j h : F) → j ≡ f → CalledAt g j x true h → true ≡ is_separator_unit (v x)
   found-parts x j h e k = (tests x true h (subst (λ (j : F). CalledAt g j x true h) e k)).1
 
 -- ---- where a component ends
@@ -84,12 +84,12 @@ pub record EndsBefore (path : List ℕ) (at : ℕ) (rest : List ℕ) : Type 0 wh
   pub cut : (e : ℕ) → e ≡ length path - length rest - 1 → components (drop at path) ≡ span path at (e - at) ∷ components_after path e
 
 module _ (path : List ℕ) (at : ℕ) (h : at ≤ length path) (us left : List TextUnit) (begun : us ≡ units (drop at path)) (w : Walked us left) where
-  module _ (u : TextUnit) (ws : List TextUnit) (found : left ≡ u ∷ ws) (parts : true ≡ separates u) (rest : List ℕ) (behind : units rest ≡ ws) where
+  module _ (u : TextUnit) (ws : List TextUnit) (found : left ≡ u ∷ ws) (parts : true ≡ is_separator_unit u) (rest : List ℕ) (behind : units rest ≡ ws) where
     pub ends-before : EndsBefore path at rest
     unfolding components components_of
     ends-before = go u found parts
       where
-        go : (u : TextUnit) → left ≡ u ∷ ws → true ≡ separates u → EndsBefore path at rest
+        go : (u : TextUnit) → left ≡ u ∷ ws → true ≡ is_separator_unit u → EndsBefore path at rest
         go (pair a b) e p = absurd (true≢false p)
         go (single b) e p =
             let same : bytes_of ws ≡ rest = ap bytes_of (sym behind) ∙ bytes-units rest in

@@ -12,7 +12,7 @@ use lib.Seq.{get_or-set_same, get_or-set_other, drop-drop}
 use lib.Dec.{ltb, eqb}
 use Rattle.std.specs.Prelude.{Option, Some, None, unwrap_or}
 use Rattle.std.specs.List.{position, position_or_len}
-use Rattle.tree.specs.Table.{up_to0}
+use Rattle.tree.specs.Table.{first_text}
 use Rattle.refusal.specs.Laws.Tests.{lt-or-le}
 use Rattle.table.specs.Inner.Texts.{text_at}
 use Rattle.table.proofs.Texts.{length-end, length-turn}
@@ -53,7 +53,7 @@ ends-turn tab ends at b v e l p q is = record {
 
 -- ---- a text that another stands behind: it ends before that one, or with it
 
-found-before : (s : List ℕ) (n : ℕ) → position_or_len (λ b. eqb b 0) (take n s) < length (take n s) → length (up_to0 s) ≡ position_or_len (λ b. eqb b 0) (take n s)
+found-before : (s : List ℕ) (n : ℕ) → position_or_len (λ b. eqb b 0) (take n s) < length (take n s) → length (first_text s) ≡ position_or_len (λ b. eqb b 0) (take n s)
 found-before [] zero h = absurd (omega arith)
 found-before [] (suc n) h = absurd (omega arith)
 found-before (b ∷ s) zero h = absurd (omega arith)
@@ -62,7 +62,7 @@ found-before (suc b ∷ s) (suc n) h =
     let z : eqb (suc b) 0 ≡ false = ne_eqb (suc b) 0 (λ e. omega arith) in
     let q : position_or_len (λ b. eqb b 0) (take (suc n) (suc b ∷ s)) ≡ 1 + position_or_len (λ b. eqb b 0) (take n s) = rw z in omega (arith, q, found-before s n (omega (arith, q)))
 
-none-before : (s : List ℕ) (n : ℕ) → length (up_to0 s) < length s → length (take n s) ≤ position_or_len (λ b. eqb b 0) (take n s) → length (up_to0 s) ≡ n + length (up_to0 (drop n s))
+none-before : (s : List ℕ) (n : ℕ) → length (first_text s) < length s → length (take n s) ≤ position_or_len (λ b. eqb b 0) (take n s) → length (first_text s) ≡ n + length (first_text (drop n s))
 none-before [] n h l = absurd (omega arith)
 none-before (b ∷ s) zero h l = omega arith
 none-before (zero ∷ s) (suc n) h l = absurd (omega arith)
@@ -80,4 +80,4 @@ module _ (tab : List ℕ) (at stop end : ℕ) (inside : at + length (text_at tab
       go false e =
           let n : at + (stop - at) ≡ stop = omega arith in
           let d : drop (stop - at) (drop at tab) ≡ drop stop tab = drop-drop (stop - at) at tab ∙ ap (λ (i : ℕ). drop i tab) n in
-          omega (arith, none-before (drop at tab) (stop - at) (omega (arith, length-drop at tab)) (ltb-false _ _ e), ap (λ (s : List ℕ). length (up_to0 s)) d)
+          omega (arith, none-before (drop at tab) (stop - at) (omega (arith, length-drop at tab)) (ltb-false _ _ e), ap (λ (s : List ℕ). length (first_text s)) d)

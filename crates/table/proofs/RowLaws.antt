@@ -13,15 +13,15 @@ use lib.Seq.{get_or-append-add, take-append_seam, drop-append-add, drop-drop}
 use Rattle.endian.specs.Bytes.{put}
 use Rattle.endian.specs.Laws.Stored.{length-put, put-sets, put_in, put-none}
 use Rattle.refusal.specs.Laws.Tests.{lt-or-le}
-use Rattle.tree.specs.Table.{Node, file, directory, name_of, none, count, nodes_of, encloses, parent_below, parent_of}
+use Rattle.tree.specs.Table.{Node, file, directory, name_of, empty_root, count, nodes_of, is_enclosing, parent_below, parent_of}
 use Rattle.tree.specs.Lookup.{is_directory, next_of}
 use Rattle.tree.proofs.Laws.Nesting.{parent-here, parent-lower, parent-before}
-use Rattle.table.specs.Rows.{row_with, image_place, row_of, rows_below, list_with_rows}
+use Rattle.table.specs.Rows.{row_with, image_place, entry_row, rows_below, list_with_rows}
 use Rattle.table.specs.Inner.ParentsIn.{HasParents}
-use Rattle.table.specs.Inner.Fields.{offset_of, last_of}
+use Rattle.table.specs.Inner.Fields.{offset_of, size_or_next_of}
 use Rattle.table.proofs.Nodes.{parent-whole}
 use Rattle.table.proofs.ChildLaws.{parent-last}
-use Rattle.tree.proofs.Laws.InsertedList.{encloses-is}
+use Rattle.tree.proofs.Laws.InsertedList.{is_enclosing-is}
 
 -- ---- six words stored
 
@@ -37,14 +37,14 @@ stores-6 s at a b c d e f h =
 
 -- ---- a row by the entry's kind
 
-with-node : (parent place : ℕ) (x : Node) → row_with parent place x ≡ bool_byte (is_directory x) ∷ parent ∷ offset_of x ∷ last_of x ∷ place ∷ length (name_of x) ∷ []
+with-node : (parent place : ℕ) (x : Node) → row_with parent place x ≡ bool_byte (is_directory x) ∷ parent ∷ offset_of x ∷ size_or_next_of x ∷ place ∷ length (name_of x) ∷ []
 with-node parent place (file nm offset size) = refl
 with-node parent place (directory nm next) = refl
 
-pub row-is : (base : ℕ) (tab : List ℕ) (k : ℕ) → let x = get_or (nodes_of tab) k none in
-    row_of base tab k ≡ bool_byte (is_directory x) ∷ parent_of (nodes_of tab) k ∷ offset_of x ∷ last_of x ∷ image_place base tab k ∷ length (name_of x) ∷ []
-unfolding row_of
-row-is base tab k = with-node (parent_of (nodes_of tab) k) (image_place base tab k) (get_or (nodes_of tab) k none)
+pub row-is : (base : ℕ) (tab : List ℕ) (k : ℕ) → let x = get_or (nodes_of tab) k empty_root in
+    entry_row base tab k ≡ bool_byte (is_directory x) ∷ parent_of (nodes_of tab) k ∷ offset_of x ∷ size_or_next_of x ∷ image_place base tab k ∷ length (name_of x) ∷ []
+unfolding entry_row
+row-is base tab k = with-node (parent_of (nodes_of tab) k) (image_place base tab k) (get_or (nodes_of tab) k empty_root)
 
 -- ---- rows one behind the other
 
@@ -52,26 +52,26 @@ row-six : (p o : ℕ) (x : Node) → (length (row_with p o x) ≡ 6) × (get_or 
 row-six p o (file nm offset size) = (refl, refl)
 row-six p o (directory nm next) = (refl, refl)
 
-length-row : (base : ℕ) (tab : List ℕ) (k : ℕ) → length (row_of base tab k) ≡ 6
-unfolding row_of
-length-row base tab k = (row-six _ _ (get_or (nodes_of tab) k none)).0
+length-row : (base : ℕ) (tab : List ℕ) (k : ℕ) → length (entry_row base tab k) ≡ 6
+unfolding entry_row
+length-row base tab k = (row-six _ _ (get_or (nodes_of tab) k empty_root)).0
 
-row-parent : (base : ℕ) (tab : List ℕ) (k : ℕ) → get_or (row_of base tab k) 1 0 ≡ parent_of (nodes_of tab) k
-unfolding row_of
-row-parent base tab k = (row-six _ _ (get_or (nodes_of tab) k none)).1
+row-parent : (base : ℕ) (tab : List ℕ) (k : ℕ) → get_or (entry_row base tab k) 1 0 ≡ parent_of (nodes_of tab) k
+unfolding entry_row
+row-parent base tab k = (row-six _ _ (get_or (nodes_of tab) k empty_root)).1
 
 pub length-rows : (base : ℕ) (tab : List ℕ) (k : ℕ) → length (rows_below base tab k) ≡ 6 * k
 unfolding rows_below
 length-rows base tab zero = refl
-length-rows base tab (suc k) = omega (arith, length-append (rows_below base tab k) (row_of base tab k), length-row base tab k, length-rows base tab k)
+length-rows base tab (suc k) = omega (arith, length-append (rows_below base tab k) (entry_row base tab k), length-row base tab k, length-rows base tab k)
 
 rows-parent : (base : ℕ) (tab : List ℕ) (k i : ℕ) → i < k → get_or (rows_below base tab k) (6 * i + 1) 0 ≡ parent_of (nodes_of tab) i
 unfolding rows_below
 rows-parent base tab zero i h = absurd (omega arith)
-rows-parent base tab (suc k) i h = ⊎_elim (λ l. get_or-append (rows_below base tab k) (row_of base tab k) 0 (6 * i + 1) (omega (arith, length-rows base tab k)) ∙ rows-parent base tab k i l) (λ l. last (omega arith)) (lt-or-le i k)
+rows-parent base tab (suc k) i h = ⊎_elim (λ l. get_or-append (rows_below base tab k) (entry_row base tab k) 0 (6 * i + 1) (omega (arith, length-rows base tab k)) ∙ rows-parent base tab k i l) (λ l. last (omega arith)) (lt-or-le i k)
   where
-    last : i ≡ k → get_or (rows_below base tab k ++ row_of base tab k) (6 * i + 1) 0 ≡ parent_of (nodes_of tab) i
-    last e = rw (e, ← length-rows base tab k) (get_or-append-add (rows_below base tab k) (row_of base tab k) 1 0 ∙ row-parent base tab k)
+    last : i ≡ k → get_or (rows_below base tab k ++ entry_row base tab k) (6 * i + 1) 0 ≡ parent_of (nodes_of tab) i
+    last e = rw (e, ← length-rows base tab k) (get_or-append-add (rows_below base tab k) (entry_row base tab k) 1 0 ∙ row-parent base tab k)
 
 put-behind : (s bs cs : List ℕ) (n : ℕ) → length bs ≡ n → n + length cs ≤ length s → put (put s 0 bs) n cs ≡ put s 0 (bs ++ cs)
 unfolding put
@@ -100,13 +100,13 @@ module _ (base : ℕ) (tab list₀ list : List ℕ) (k : ℕ) (room : 6 * count 
           let p = put_in list₀ 0 (rows_below base tab k) (omega (arith, length-rows base tab k, l.at_most)) (6 * i + 1) (omega (arith, length-rows base tab k)) in
           rw l.is ((rw n at p) ∙ rows-parent base tab k i h)
 
-  pub listing-turn : k < count tab → (list' : List ℕ) → list' ≡ put list (6 * k) (row_of base tab k) → Listing base tab list₀ list' (k + 1)
+  pub listing-turn : k < count tab → (list' : List ℕ) → list' ≡ put list (6 * k) (entry_row base tab k) → Listing base tab list₀ list' (k + 1)
   unfolding rows_below
   listing-turn h list' e =
       record {
         at_most = omega arith;
-        long = ap length e ∙ length-put list (6 * k) (row_of base tab k) (omega (arith, length-row base tab k, l.long)) ∙ l.long;
-        is = e ∙ rw (l.is, add-one k) (put-behind list₀ (rows_below base tab k) (row_of base tab k) (6 * k) (length-rows base tab k) (omega (arith, length-row base tab k)));
+        long = ap length e ∙ length-put list (6 * k) (entry_row base tab k) (omega (arith, length-row base tab k, l.long)) ∙ l.long;
+        is = e ∙ rw (l.is, add-one k) (put-behind list₀ (rows_below base tab k) (entry_row base tab k) (6 * k) (length-rows base tab k) (omega (arith, length-row base tab k)));
       }
 
   pub listing-end : count tab ≤ k → list ≡ list_with_rows base tab list₀
@@ -117,12 +117,12 @@ module _ (base : ℕ) (tab list₀ list : List ℕ) (k : ℕ) (room : 6 * count 
 
 -- ---- the parent by the parents before
 
-below-skip : (nodes : List Node) (k q i : ℕ) → q ≤ i → ((j : ℕ) → q ≤ j → j < i → next_of (get_or nodes j none) ≤ k) → parent_below nodes k i ≡ parent_below nodes k q
+below-skip : (nodes : List Node) (k q i : ℕ) → q ≤ i → ((j : ℕ) → q ≤ j → j < i → next_of (get_or nodes j empty_root) ≤ k) → parent_below nodes k i ≡ parent_below nodes k q
 below-skip nodes k q zero h f = let e : q ≡ 0 = omega arith in rw e
 below-skip nodes k q (suc i) h f = ⊎_elim (λ l. parent-lower nodes k i (closed i (f i l (omega arith))) ∙ below-skip nodes k q i l (λ j a b. f j a (omega arith))) (λ l. let e : q ≡ suc i = omega arith in rw e) (le-or-eq q i h)
   where
-    closed : (j : ℕ) → next_of (get_or nodes j none) ≤ k → encloses (get_or nodes j none) k ≡ false
-    closed j l = encloses-is (get_or nodes j none) k ∙ le-ltb k (next_of (get_or nodes j none)) l
+    closed : (j : ℕ) → next_of (get_or nodes j empty_root) ≤ k → is_enclosing (get_or nodes j empty_root) k ≡ false
+    closed j l = is_enclosing-is (get_or nodes j empty_root) k ∙ le-ltb k (next_of (get_or nodes j empty_root)) l
 
     le-or-eq : (q i : ℕ) → q ≤ suc i → (q ≤ i) ⊎ (i < q)
     le-or-eq q i h = ⊎_elim (λ l. inr l) (λ l. inl l) (lt-or-le i q)
@@ -131,17 +131,17 @@ module _ (nodes : List Node) (k p : ℕ) where
   pub climb-start : 0 < k → p ≡ k - 1 → parent_of nodes k ≡ parent_below nodes k (p + 1)
   climb-start h e = let n : k ≡ p + 1 = omega arith in parent-whole nodes k ∙ ap (parent_below nodes k) n
 
-  pub climb-found : k < next_of (get_or nodes p none) → parent_below nodes k (p + 1) ≡ p
-  climb-found h = rw (add-one p) (parent-here nodes k p (encloses-is (get_or nodes p none) k ∙ lt-ltb k (next_of (get_or nodes p none)) h))
+  pub climb-found : k < next_of (get_or nodes p empty_root) → parent_below nodes k (p + 1) ≡ p
+  climb-found h = rw (add-one p) (parent-here nodes k p (is_enclosing-is (get_or nodes p empty_root) k ∙ lt-ltb k (next_of (get_or nodes p empty_root)) h))
 
-  pub climb-turn : 0 < p → p < k → next_of (get_or nodes p none) ≤ k → parent_below nodes k (p + 1) ≡ parent_below nodes k (parent_of nodes p + 1)
+  pub climb-turn : 0 < p → p < k → next_of (get_or nodes p empty_root) ≤ k → parent_below nodes k (p + 1) ≡ parent_below nodes k (parent_of nodes p + 1)
   climb-turn z l h =
       below-skip nodes k (parent_of nodes p + 1) (p + 1) (omega (arith, parent-before nodes p z))
       (λ j a b. ⊎_elim (λ q. omega (arith, parent-last nodes p (parent_of nodes p) j refl (omega arith) q)) (λ q. let e : j ≡ p = omega arith in rw e h) (lt-or-le j p))
 
   pub climb-end : p ≡ 0 → parent_below nodes k (p + 1) ≡ 0
   unfolding parent_below
-  climb-end e = let n : p + 1 ≡ 1 = omega arith in rw n (go (encloses (get_or nodes 0 none) k))
+  climb-end e = let n : p + 1 ≡ 1 = omega arith in rw n (go (is_enclosing (get_or nodes 0 empty_root) k))
     where
       go : (t : Bool) → ◌≡◌ {A = ℕ} (cond t 0 0) 0
       go true = refl

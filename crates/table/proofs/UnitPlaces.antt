@@ -1,6 +1,6 @@
 -- The bytes of a text's units are the text. Assumes nothing.
 use Prim.Native.Nat.{ℕ}
-use mathlib.Core.Path.{◌≡◌, refl, sym, ap, ◌∙◌}
+use mathlib.Core.Path.{◌≡◌, refl}
 use mathlib.Core.List.{List, [], ◌∷◌, ◌++◌}
 use Rattle.tree.specs.Units.{TextUnit, unit_bytes, units}
 use Rattle.tree.proofs.Laws.UnitLaws.{by_units}
@@ -17,7 +17,3 @@ bytes-units s = by_units Whole refl (λ a b s l t u e. rw (u, e) refl) (λ a s u
   where
     Whole : List ℕ → Type 0
     Whole s = bytes_of (units s) ≡ s
-
--- LAW: no two texts have the same units
-pub units-same : (s t : List ℕ) → units s ≡ units t → s ≡ t
-units-same s t e = sym (bytes-units s) ∙ ap bytes_of e ∙ bytes-units t

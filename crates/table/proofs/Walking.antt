@@ -12,13 +12,13 @@ use lib.ListN.{length, get_or, set, drop}
 use lib.Seq.{get_or-set_same, get_or-set_other}
 use lib.Dec.{leb, ltb}
 use Rattle.refusal.specs.declared.Refusal.TheVariants.{EntryPastTable, UnrecognizedKind, InvalidNextIndex, LimitOrMemory}
-use Rattle.refusal.specs.Refusal.{refuse, is_refused}
+use Rattle.refusal.specs.Refusal.{refuse}
 use Rattle.refusal.specs.Laws.Chains.{refuse-passed, first-passed}
-use Rattle.tree.specs.Table.{file, directory, count, kind, name_offset, offset_or_parent, size_or_next, name_at, node_with, node_at, nodes_from, entry_verdict, entries_verdict, top, shut, enter, next_verdict, walk}
+use Rattle.tree.specs.Table.{file, directory, count, kind, name_offset, offset_or_parent, size_or_next, name_at, node_with, node_at, nodes_from, entry_verdict, entries_verdict, top, dirs_open_at, dirs_with, next_verdict, walk}
 use Rattle.tree.specs.Faults.{first_refused, walk_refused, root_refused, texts_refused, refused_entry}
 use Rattle.tree.proofs.Laws.FaultSteps.{stopped-here, stopped-later, stopped_none}
 use Rattle.tree.proofs.Laws.Steps.{walk_entry, walk-stop, walk-go, walk_end}
-use Rattle.table.specs.Inner.Reading.{Inside, open_in, node_verdict}
+use Rattle.table.specs.Inner.Reading.{IsInside, open_in, node_verdict}
 use Rattle.tree.proofs.Laws.Accepted.{name_of-node_at}
 
 -- entries that pass stand in the table
@@ -32,7 +32,7 @@ entries-held tab k (suc n) e =
     let e₁ = first-passed (entry_verdict tab k) (entries_verdict tab (suc k) (suc n)) e in
     omega (arith, entries-held tab (suc k) n e₁.1)
 
-pub entries-inside : (tab : List ℕ) (c : ℕ) → 12 ≤ length tab → 1 ≤ c → c ≤ 16384 → entries_verdict tab 1 (c - 1) ≡ Ok tt → Inside tab c
+pub entries-inside : (tab : List ℕ) (c : ℕ) → 12 ≤ length tab → 1 ≤ c → c ≤ 16384 → entries_verdict tab 1 (c - 1) ≡ Ok tt → IsInside tab c
 entries-inside tab zero h l s e = elim l [ ]
 entries-inside tab (suc zero) h l s e = record { held = h; some = l; small = s }
 entries-inside tab (suc (suc n)) h l s e =
@@ -74,18 +74,18 @@ unfolding open_in
 open_none words d h = rw h
 
 -- none is shut where the innermost goes on, and the innermost is where it ends
-pub shut-keep : (dirs : List ℕ) (k : ℕ) → k < top dirs → shut k dirs ≡ dirs
-unfolding shut
-shut-keep [] k h = refl
-shut-keep (n ∷ dirs) k h = rw (lt-leb n k h)
+pub dirs_open_at-keep : (dirs : List ℕ) (k : ℕ) → k < top dirs → dirs_open_at k dirs ≡ dirs
+unfolding dirs_open_at
+dirs_open_at-keep [] k h = refl
+dirs_open_at-keep (n ∷ dirs) k h = rw (lt-leb n k h)
 
-pub shut-drop : (dirs : List ℕ) (k : ℕ) → top dirs ≤ k → shut k dirs ≡ shut k (drop 1 dirs)
-unfolding shut
-shut-drop [] k h = refl
-shut-drop (n ∷ dirs) k h = rw (le-leb n k h)
+pub dirs_open_at-drop : (dirs : List ℕ) (k : ℕ) → top dirs ≤ k → dirs_open_at k dirs ≡ dirs_open_at k (drop 1 dirs)
+unfolding dirs_open_at
+dirs_open_at-drop [] k h = refl
+dirs_open_at-drop (n ∷ dirs) k h = rw (le-leb n k h)
 
-pub shut_none : (dirs : List ℕ) (k : ℕ) → length dirs ≡ 0 → shut k dirs ≡ dirs
-unfolding shut
+pub shut_none : (dirs : List ℕ) (k : ℕ) → length dirs ≡ 0 → dirs_open_at k dirs ≡ dirs
+unfolding dirs_open_at
 shut_none [] k h = refl
 shut_none (n ∷ dirs) k h = absurd (omega arith)
 
@@ -94,9 +94,9 @@ unfolding open_in
 open-frame words i v zero h = refl
 open-frame words i v (suc d) h = rw (get_or-set_other words i d v 0 (λ e. omega arith), open-frame words i v d (omega arith))
 
-pub open-enter : (words : List ℕ) (d v : ℕ) → d < length words → open_in (set words d v) (d + 1) ≡ v ∷ open_in words d
+pub open-dirs_with : (words : List ℕ) (d v : ℕ) → d < length words → open_in (set words d v) (d + 1) ≡ v ∷ open_in words d
 unfolding open_in
-open-enter words d v h = rw (add-one d, get_or-set_same words d v 0 h, open-frame words d v d (omega arith))
+open-dirs_with words d v h = rw (add-one d, get_or-set_same words d v 0 h, open-frame words d v d (omega arith))
 
 -- a directory that passes is at most 64 deep
 pub next-depth : (c : ℕ) (dirs : List ℕ) (k : ℕ) (nm : List ℕ) (next : ℕ) → next_verdict c dirs k (directory nm next) ≡ Ok tt → length dirs ≤ 64
@@ -110,8 +110,8 @@ next-depth c dirs k nm next e =
     ltb-false 64 (length dirs) (refuse-passed (ltb 64 (length dirs)) LimitOrMemory (Ok tt) e₃.1).0
 
 -- so there is room for its next
-pub enter-room : (tab : List ℕ) (c k : ℕ) (dirs : List ℕ) → (kind tab k ≡ 0 → ⊥) → next_verdict c dirs k (node_at tab c k) ≡ Ok tt → length dirs ≤ 64
-enter-room tab c k dirs h e =
+pub dirs_with-room : (tab : List ℕ) (c k : ℕ) (dirs : List ℕ) → (kind tab k ≡ 0 → ⊥) → next_verdict c dirs k (node_at tab c k) ≡ Ok tt → length dirs ≤ 64
+dirs_with-room tab c k dirs h e =
     next-depth c dirs k (name_at tab c (name_offset tab k)) (size_or_next tab k) (rw (node-directory tab c k h) at e)
 
 -- ---- the walk's loop
@@ -121,17 +121,14 @@ pub record Walked (tab : List ℕ) (c : ℕ) (dirs : List ℕ) (k : ℕ) : Type 
   pub from : 1 ≤ k
   pub left : walk tab c (c ∷ []) 1 (nodes_from tab c 1 (c - 1)) ≡ walk tab c dirs k (nodes_from tab c k (c - k))
 
-pub walked_start : (tab : List ℕ) (c : ℕ) → Walked tab c (c ∷ []) 1
-walked_start tab c = record { from = omega arith; left = refl }
-
-module _ {tab : List ℕ} {c : ℕ} {dirs : List ℕ} {k : ℕ} (w : Walked tab c dirs k) (around : List ℕ) (shuts : around ≡ shut k dirs) (v : Verdict) (test : v ≡ node_verdict tab c around k) (more : k < c) where
+module _ {tab : List ℕ} {c : ℕ} {dirs : List ℕ} {k : ℕ} (w : Walked tab c dirs k) (around : List ℕ) (shuts : around ≡ dirs_open_at k dirs) (v : Verdict) (test : v ≡ node_verdict tab c around k) (more : k < c) where
   same : v ≡ walk_entry tab c dirs k (node_at tab c k)
   same = test ∙ rw (shuts, name_of-node_at tab c k)
 
-  pub walked_stop : is_refused v ≡ true → v ≡ walk tab c (c ∷ []) 1 (nodes_from tab c 1 (c - 1))
+  pub walked_stop : is_err v ≡ true → v ≡ walk tab c (c ∷ []) 1 (nodes_from tab c 1 (c - 1))
   walked_stop r = sym (w.left ∙ walk-stop tab c dirs k c v more same r)
 
-  pub walked-turn : is_refused v ≡ false → (next : List ℕ) → next ≡ enter around (node_at tab c k) → Walked tab c next (k + 1)
+  pub walked-turn : is_err v ≡ false → (next : List ℕ) → next ≡ dirs_with around (node_at tab c k) → Walked tab c next (k + 1)
   walked-turn r next e = record { from = omega arith; left = w.left ∙ walk-go tab c dirs k c v more same r ∙ rw (e, shuts) }
 
 pub walked_end : (tab : List ℕ) (c : ℕ) (dirs : List ℕ) (k : ℕ) → Walked tab c dirs k → c ≤ k → Ok tt ≡ walk tab c (c ∷ []) 1 (nodes_from tab c 1 (c - 1))
@@ -146,14 +143,14 @@ pub record Sought (tab : List ℕ) (c : ℕ) (dirs : List ℕ) (k : ℕ) : Type 
 pub sought_start : (tab : List ℕ) (c : ℕ) → Sought tab c (c ∷ []) 1
 sought_start tab c = record { from = omega arith; left = refl }
 
-module _ {tab : List ℕ} {c : ℕ} {dirs : List ℕ} {k : ℕ} (w : Sought tab c dirs k) (around : List ℕ) (shuts : around ≡ shut k dirs) (v : Verdict) (test : v ≡ node_verdict tab c around k) (more : k < c) where
+module _ {tab : List ℕ} {c : ℕ} {dirs : List ℕ} {k : ℕ} (w : Sought tab c dirs k) (around : List ℕ) (shuts : around ≡ dirs_open_at k dirs) (v : Verdict) (test : v ≡ node_verdict tab c around k) (more : k < c) where
   same_test : v ≡ walk_entry tab c dirs k (node_at tab c k)
   same_test = test ∙ rw (shuts, name_of-node_at tab c k)
 
   pub sought-here : is_err v ≡ true → Some k ≡ walk_refused tab c (c ∷ []) 1 (nodes_from tab c 1 (c - 1))
   sought-here r = sym (w.left ∙ stopped-here tab c dirs k c v more same_test r)
 
-  pub sought-turn : is_err v ≡ false → (next : List ℕ) → next ≡ enter around (node_at tab c k) → Sought tab c next (k + 1)
+  pub sought-turn : is_err v ≡ false → (next : List ℕ) → next ≡ dirs_with around (node_at tab c k) → Sought tab c next (k + 1)
   sought-turn r next e = record { from = omega arith; left = w.left ∙ stopped-later tab c dirs k c v more same_test r ∙ rw (e, shuts) }
 
 pub sought_end : (tab : List ℕ) (c : ℕ) (dirs : List ℕ) (k : ℕ) → Sought tab c dirs k → c ≤ k → None ≡ walk_refused tab c (c ∷ []) 1 (nodes_from tab c 1 (c - 1))

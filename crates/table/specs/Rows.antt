@@ -5,7 +5,7 @@ use Rattle.std.specs.Prelude.{ℕ, zero, suc, ◌+◌, ◌*◌, List, [], ◌∷
 use Rattle.endian.specs.Bytes.{put}
 use Rattle.refusal.specs.declared.Refusal.TheVariants.{LimitOrMemory}
 use Rattle.refusal.specs.Refusal.{refuse}
-use Rattle.tree.specs.Table.{name_place, Node, file, directory, none, count, nodes_of, parent_of}
+use Rattle.tree.specs.Table.{name_place, Node, file, directory, empty_root, count, nodes_of, parent_of}
 
 -- kind, the directory that it is nested in, offset (0 for a directory), size or next, where its name stands in the image, the name's length
 abbrev pub row_with : ℕ → ℕ → Node → List ℕ
@@ -18,13 +18,13 @@ image_place base tab zero = 0
 image_place base tab (suc k) = base + name_place tab (suc k)
 
 -- the row of entry k of a table that stands at `base`
-unfoldable pub row_of : ℕ → List ℕ → ℕ → List ℕ
-row_of base tab k = row_with (parent_of (nodes_of tab) k) (image_place base tab k) (slice_index_or (nodes_of tab) k none)
+unfoldable pub entry_row : ℕ → List ℕ → ℕ → List ℕ
+entry_row base tab k = row_with (parent_of (nodes_of tab) k) (image_place base tab k) (slice_index_or (nodes_of tab) k empty_root)
 
 -- the rows of the entries below k
 unfoldable pub rows_below : ℕ → List ℕ → ℕ → List ℕ
 rows_below base tab zero = []
-rows_below base tab (suc k) = rows_below base tab k ++ row_of base tab k
+rows_below base tab (suc k) = rows_below base tab k ++ entry_row base tab k
 
 -- nothing is written to a list that is too short
 unfoldable pub list_verdict : List ℕ → ℕ → Verdict

@@ -4,14 +4,16 @@ ghost use Rattle.std.specs.Prelude.{◌≡◌, [], ◌∷◌, ◌-◌, ◌*◌, 
 ghost use Rattle.tree.specs.Table as table_of;
 ghost use Rattle.tree.specs.Faults as faults;
 ghost use Rattle.tree.specs.Table.{name_offset, name_at, node_at, nodes_from, name_verdict, next_verdict};
-ghost use Rattle.table.specs.Inner.Reading.{Inside, node_verdict, texts_verdict, text_verdict};
+ghost use Rattle.table.specs.Inner.Reading as reading_of;
+ghost use Rattle.table.specs.Inner.Reading.{IsInside, node_verdict, texts_verdict};
 ghost use Rattle.table.specs.Inner.Texts.{text_at};
 ghost use Rattle.table.specs.Inner.Blocks.{IsFit};
 
 use crate::marks::Survey;
 use crate::stack::Stack;
-use crate::{fields, names, text};
+use crate::{fields, name_tests, text};
 use refusal::{Refusal, Verdict};
+use tree::{DEPTH_LIMIT, ENTRIES_LIMIT, TEXTS_LIMIT};
 
 /// The count of entries: the root's "next", where a count of 0 reads the root only.
 pub fn count(table: &[u8]) -> usize
@@ -52,13 +54,13 @@ fn entries_verdict(table: &[u8], count: usize) -> Verdict
 // The units of the name at `at`: first whether each is a name's, then whether each is safe.
 #[cold]
 fn units_verdict(table: &[u8], at: usize) -> Verdict
-    ensures { result ≡ text_verdict (text_at table.now at) }
+    ensures { result ≡ reading_of.units_verdict (text_at table.now at) }
 {
     let name = text::text_at(table, at);
-    if !names::is_plain(name) {
+    if !name_tests::is_plain(name) {
         return Err(Refusal::InvalidNameByte);
     }
-    if !names::is_safe(name) {
+    if !name_tests::is_safe(name) {
         return Err(Refusal::UnsafeName);
     }
     Ok(())
@@ -67,7 +69,7 @@ fn units_verdict(table: &[u8], at: usize) -> Verdict
 // The same where the text is fit: the first bytes decide.
 fn clean_verdict(table: &[u8], at: usize) -> Verdict
     requires { IsFit table.now at }
-    ensures { result ≡ text_verdict (text_at table.now at) }
+    ensures { result ≡ reading_of.units_verdict (text_at table.now at) }
 {
     if text::is_nameless_at(table, at) {
         return Err(Refusal::UnsafeName);
@@ -79,7 +81,7 @@ fn clean_verdict(table: &[u8], at: usize) -> Verdict
 // Kept: `while`, which counts no index; an iterator that takes off what it gives would also take off the
 // directory that stays open.
 fn shut(dirs: &mut Stack, k: usize)
-    ensures { dirs.new ≡ table_of.shut k dirs.old }
+    ensures { dirs.new ≡ table_of.dirs_open_at k dirs.old }
 {
     while !dirs.is_empty() {
         if k < dirs.top() as usize {
@@ -94,7 +96,7 @@ fn shut(dirs: &mut Stack, k: usize)
 struct Entries<'a> {
     table: &'a [u8],
     count: usize,
-    ghost inside: { Inside table.now count },
+    ghost inside: { IsInside table.now count },
 }
 
 impl<'a> Entries<'a> {
@@ -139,7 +141,7 @@ impl<'a> Entries<'a> {
         if (dirs.top() as usize) < next {
             return Err(Refusal::InvalidNextIndex);
         }
-        if 64 < dirs.len() {
+        if DEPTH_LIMIT < dirs.len() {
             return Err(Refusal::LimitOrMemory);
         }
         Ok(())
@@ -162,7 +164,8 @@ impl<'a> Entries<'a> {
         requires within { k < self.now.count }
         requires passed { let node = node_at self.now.table.now self.now.count k in
             next_verdict self.now.count dirs.old k node ≡ (Ok tt) }
-        ensures { dirs.new ≡ table_of.enter dirs.old (node_at self.now.table.now self.now.count k) }
+        ensures { dirs.new
+            ≡ table_of.dirs_with dirs.old (node_at self.now.table.now self.now.count k) }
     {
         if self.table[12 * k] != 0 {
             dirs.push(fields::size_or_next(self.table, k));
@@ -212,8 +215,8 @@ impl<'a> Entries<'a> {
     // Whether texts stand after the entries, and the last has no zero byte at its end.
     // Kept: it answers a question that the one test asks; the refusal stands there, in the order of the
     // tests.
-    fn unended(&self) -> bool
-        ensures { result ≡ table_of.unended self.now.table.now self.now.count }
+    fn is_unended(&self) -> bool
+        ensures { result ≡ table_of.is_unended self.now.table.now self.now.count }
     {
         12 * self.count < self.table.len() && self.table[self.table.len() - 1] != 0
     }
@@ -222,10 +225,10 @@ impl<'a> Entries<'a> {
     fn texts_verdict(&self, words: usize) -> Verdict
         ensures { result ≡ texts_verdict self.now.table.now self.now.count words }
     {
-        if self.unended() {
+        if self.is_unended() {
             return Err(Refusal::MissingNullTerminator);
         }
-        if 1048576 < self.table.len() - 12 * self.count {
+        if TEXTS_LIMIT < self.table.len() - 12 * self.count {
             return Err(Refusal::LimitOrMemory);
         }
         if words < 4 * (self.count + 2) {
@@ -242,8 +245,8 @@ impl<'a> Entries<'a> {
     fn texts_refused(&self, words: usize) -> bool
         ensures { result ≡ faults.texts_refused self.now.table.now self.now.count words }
     {
-        self.unended()
-            || 1048576 < self.table.len() - 12 * self.count
+        self.is_unended()
+            || TEXTS_LIMIT < self.table.len() - 12 * self.count
             || words < 4 * (self.count + 2)
             || endian::read_u32(self.table, 8) == 0
     }
@@ -263,7 +266,7 @@ pub fn check(table: &[u8], words: usize) -> Verdict
         return Err(Refusal::RootIsNotDirectory);
     }
     let count = count(table);
-    if 16384 < count {
+    if ENTRIES_LIMIT < count {
         return Err(Refusal::LimitOrMemory);
     }
     entries_verdict(table, count)?;
@@ -297,7 +300,7 @@ pub fn refused_entry(table: &[u8], words: usize) -> Option<u32>
         return None;
     }
     let count = count(table);
-    if 16384 < count {
+    if ENTRIES_LIMIT < count {
         return None;
     }
     if entries_verdict(table, count).is_err() {

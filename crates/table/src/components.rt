@@ -2,7 +2,7 @@
 ghost use Rattle.std.specs.Prelude.{◌≡◌, ◌∷◌, ◌-◌, ◌≤◌, length, drop};
 ghost use Rattle.std.specs.Iterator.{YieldsFirstBy, item_count};
 ghost use Rattle.endian.specs.Bytes.{span};
-ghost use Rattle.tree.specs.Lookup.{separates, components};
+ghost use Rattle.tree.specs.Lookup.{is_separator_unit, components};
 ghost use Rattle.table.specs.Inner.Read.{unit_of};
 ghost use Rattle.table.specs.Inner.Steps.{components_after};
 
@@ -10,7 +10,7 @@ use crate::units::{Unit, Units};
 use std::marker::Model;
 
 fn is_separator(unit: Unit) -> bool
-    ensures { result ≡ separates (unit_of unit) }
+    ensures { result ≡ is_separator_unit (unit_of unit) }
 {
     matches!(unit, Unit::Single(b'/' | b'\\'))
 }

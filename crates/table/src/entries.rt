@@ -1,11 +1,11 @@
 // An accepted file table as a type. Contracts see its bytes.
 ghost use Rattle.std.specs.Prelude.{◌≡◌, ◌+◌, ◌≤◌, ◌<◌, ◌^◌, length, ◌==◌, slice_index_or};
 ghost use Rattle.tree.specs.Table as table_of;
-ghost use Rattle.tree.specs.Table.{none, nodes_of, name_of, parent_of, name_place, size_or_next};
+ghost use Rattle.tree.specs.Table.{empty_root, nodes_of, name_of, parent_of, name_place, size_or_next};
 ghost use Rattle.tree.specs.Lookup.{is_directory, next_of, entry_of, entry_found};
 ghost use Rattle.table.specs.Inner.Reading.{Opens};
 ghost use Rattle.table.specs.Inner.Texts.{text_at};
-ghost use Rattle.table.specs.Inner.Fields.{offset_of, last_of};
+ghost use Rattle.table.specs.Inner.Fields.{offset_of, size_or_next_of};
 ghost use Rattle.table.specs.Inner.Held.{IsTable};
 
 use crate::{acceptance, fields, name};
@@ -63,7 +63,7 @@ impl<'a> Table<'a> {
     /// Whether entry `k` is a directory. An accepted table has the kinds 0 and 1 only.
     pub fn is_directory(&self, k: usize) -> bool
         requires { k < table_of.count self.now }
-        ensures { result ≡ is_directory (slice_index_or (nodes_of self.now) k none) }
+        ensures { result ≡ is_directory (slice_index_or (nodes_of self.now) k empty_root) }
     {
         let table = self.bytes;
         table[12 * k] != 0
@@ -72,7 +72,7 @@ impl<'a> Table<'a> {
     /// A file's offset; 0 for a directory.
     pub fn offset(&self, k: usize) -> u32
         requires { k < table_of.count self.now }
-        ensures { result ≡ offset_of (slice_index_or (nodes_of self.now) k none) }
+        ensures { result ≡ offset_of (slice_index_or (nodes_of self.now) k empty_root) }
     {
         let table = self.bytes;
         if table[12 * k] != 0 {
@@ -85,7 +85,7 @@ impl<'a> Table<'a> {
     pub fn last(&self, k: usize) -> u32
         requires { k < table_of.count self.now }
         ensures stored { result ≡ size_or_next self.now k }
-        ensures last { result ≡ last_of (slice_index_or (nodes_of self.now) k none) }
+        ensures last { result ≡ size_or_next_of (slice_index_or (nodes_of self.now) k empty_root) }
         ensures held { IsTable self.now }
     {
         fields::size_or_next(self.bytes, k)
@@ -94,7 +94,7 @@ impl<'a> Table<'a> {
     /// A directory's next, the number of the entry after its last one; 0 for a file.
     pub fn next(&self, k: usize) -> usize
         requires { k < table_of.count self.now }
-        ensures { result ≡ next_of (slice_index_or (nodes_of self.now) k none) }
+        ensures { result ≡ next_of (slice_index_or (nodes_of self.now) k empty_root) }
     {
         let table = self.bytes;
         if table[12 * k] == 0 {
@@ -119,7 +119,7 @@ impl<'a> Table<'a> {
     /// The name of entry `k`; the root has none.
     pub fn name(&self, k: usize) -> &'a [u8]
         requires { k < table_of.count self.now }
-        ensures { result.now ≡ name_of (slice_index_or (nodes_of self.now) k none) }
+        ensures { result.now ≡ name_of (slice_index_or (nodes_of self.now) k empty_root) }
     {
         let table = self.bytes;
         if k == 0 {

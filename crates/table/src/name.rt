@@ -1,8 +1,8 @@
 // A text of a table compared with a name, and measured.
 ghost use Rattle.std.specs.Prelude.{◌≡◌, false, ◌+◌, ◌≤◌, ◌<◌, length};
-ghost use Rattle.endian.specs.Bytes.{same_bytes};
+ghost use Rattle.endian.specs.Bytes.{are_same_bytes};
 ghost use Rattle.table.specs.Inner.Texts.{text_at};
-ghost use Rattle.table.specs.Inner.Zeros.{has_zero};
+ghost use Rattle.table.specs.Inner.Zeros.{is_with_zero};
 
 use crate::units;
 
@@ -10,8 +10,8 @@ use crate::units;
 // Kept: it answers a question that stands in a condition, and refuses nothing.
 pub fn text_is(table: &[u8], at: usize, name: &[u8]) -> bool
     requires inside { at ≤ length table.now }
-    requires no_zero { has_zero name.now ≡ false }
-    ensures { result ≡ same_bytes (text_at table.now at) name.now }
+    requires no_zero { is_with_zero name.now ≡ false }
+    ensures { result ≡ are_same_bytes (text_at table.now at) name.now }
 {
     let n = name.len();
     if table.len() - at < n {

@@ -1,6 +1,6 @@
 // Texts passed unit by unit: each byte is looked up, so that a pair takes a dozen instructions.
 ghost use Rattle.std.specs.Prelude.{◌≡◌, ◌+◌, ◌≤◌};
-ghost use Rattle.table.specs.Inner.Texts.{clean_from};
+ghost use Rattle.table.specs.Inner.Texts.{is_clean_from};
 ghost use Rattle.table.specs.Inner.Blocks.{IsFit};
 
 // The bytes, 16 to a line: `c` for those that are clean, `z` for the one that ends a text, `l` for those that
@@ -83,7 +83,7 @@ pub fn pass_units(table: &[u8], from: usize, end: usize) -> usize
 // Kept: as above (S): `Units` and `is_clean` took 1.4 times as long to open 16,384 names of pairs.
 #[inline(never)]
 fn pass_looked_up(table: &[u8], from: usize) -> usize
-    ensures { clean_from table.now from ≡ clean_from table.now result }
+    ensures { is_clean_from table.now from ≡ is_clean_from table.now result }
 {
     if table.len() <= from {
         return from;
@@ -115,7 +115,7 @@ fn pass_looked_up(table: &[u8], from: usize) -> usize
 
 // The same. Where nothing is left no chart is laid out: on an ASCII disc.
 pub fn pass_clean_units(table: &[u8], from: usize) -> usize
-    ensures { clean_from table.now from ≡ clean_from table.now result }
+    ensures { is_clean_from table.now from ≡ is_clean_from table.now result }
 {
     if table.len() <= from {
         return from;

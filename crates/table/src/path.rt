@@ -3,9 +3,9 @@ ghost use Rattle.std.specs.Prelude.{◌≡◌, [], ◌∷◌, ◌<◌, ◌^◌, 
 ghost use Rattle.tree.specs.Table as table_of;
 ghost use Rattle.tree.specs.Table.{nodes_of};
 ghost use Rattle.tree.specs.Lookup as lookup_of;
-ghost use Rattle.tree.specs.Lookup.{components, found_at};
+ghost use Rattle.tree.specs.Lookup.{components, found_of};
 ghost use Rattle.table.specs.Inner.Held.{IsTable};
-ghost use Rattle.table.specs.Inner.Steps.{IsTrail, onward};
+ghost use Rattle.table.specs.Inner.Steps.{IsTrail, lookup_onward};
 
 use crate::components::Components;
 use crate::entries::Table;
@@ -14,16 +14,16 @@ use refusal::Refusal;
 use tree::Found;
 
 /// Empty and `.` stay.
-pub fn stays(name: &[u8]) -> bool
-    ensures { result ≡ lookup_of.stays name.now }
+pub fn is_staying(name: &[u8]) -> bool
+    ensures { result ≡ lookup_of.is_staying name.now }
 {
     matches!(name, b"" | b".")
 }
 
 /// `..` goes back over the last named step.
 // Kept: a `bool` (N): it answers a question, asked in an `if`, and its name is public.
-pub fn goes_back(name: &[u8]) -> bool
-    ensures { result ≡ lookup_of.goes_back name.now }
+pub fn is_going_back(name: &[u8]) -> bool
+    ensures { result ≡ lookup_of.is_going_back name.now }
 {
     matches!(name, b"..")
 }
@@ -35,16 +35,17 @@ fn take_step(table: &Table<'_>, trail: &mut Stack, k: usize, name: &[u8]) -> Res
     requires held { IsTable table.now }
     requires trail { IsTrail (nodes_of table.now) trail.old k }
     ensures onward { let nodes = nodes_of table.now in (cs : List (List ℕ)) →
-        lookup_of.follow nodes trail.old k (name.now ∷ cs) ≡ onward nodes trail.new cs result }
+        lookup_of.follow nodes trail.old k (name.now ∷ cs)
+        ≡ lookup_onward nodes trail.new cs result }
     ensures trail { IfOk result (λ j. IsTrail (nodes_of table.now) trail.new j) }
 {
     if !table.is_directory(k) {
         return Err(Refusal::ExpectedDirectory);
     }
-    if stays(name) {
+    if is_staying(name) {
         return Ok(k);
     }
-    if goes_back(name) {
+    if is_going_back(name) {
         return match trail.pop() {
             Some(left) => Ok(left as usize),
             None => Err(Refusal::NotFound),
@@ -88,7 +89,7 @@ pub fn lookup(table: &Table<'_>, start: u32, path: &[u8]) -> Result<u32, Refusal
 pub fn find(table: &Table<'_>, start: u32, path: &[u8]) -> Found
     requires { length path.now < 2 ^ 63 }
     ensures { let nodes = nodes_of table.now in
-        result ≡ found_at nodes (lookup_of.lookup nodes start path.now) }
+        result ≡ found_of nodes (lookup_of.lookup nodes start path.now) }
 {
     match lookup(table, start, path) {
         Ok(k) => table.entry(k),

@@ -4,8 +4,8 @@ ghost use Rattle.std.specs.Bool.{OnTrue};
 ghost use Rattle.std.specs.List.{position};
 ghost use Rattle.endian.specs.Bytes.{put};
 ghost use Rattle.tree.specs.Table as table_of;
-ghost use Rattle.tree.specs.Table.{none, nodes_of, name_of, parent_of};
-ghost use Rattle.table.specs.Rows.{image_place, row_of, list_verdict, list_with_rows};
+ghost use Rattle.tree.specs.Table.{empty_root, nodes_of, name_of, parent_of};
+ghost use Rattle.table.specs.Rows.{image_place, entry_row, list_verdict, list_with_rows};
 ghost use Rattle.table.specs.Inner.Texts.{text_at};
 ghost use Rattle.table.specs.Inner.ParentsIn.{HasParents};
 ghost use Rattle.table.specs.Inner.Ends.{EndsIn};
@@ -117,7 +117,7 @@ impl<'a> Ends<'a> {
     // The length of the name of entry k; the root has none.
     fn name_length(&mut self, k: usize) -> usize
         requires { k < table_of.count self.old.table.now }
-        ensures value { let node = slice_index_or (nodes_of self.old.table.now) k none in
+        ensures value { let node = slice_index_or (nodes_of self.old.table.now) k empty_root in
             result ≡ length (name_of node) }
         ensures short { result ≤ 2 ^ 20 }
         ensures table { self.new.table ≡ self.old.table }
@@ -142,12 +142,12 @@ struct Row {
 }
 
 impl Row {
-    ghost use Rattle.table.specs.Inner.Words.{words_of};
+    ghost use Rattle.table.specs.Inner.Words.{row_words};
 
     // The six words of entry k.
     fn write(self, list: &mut [u32], k: usize)
         requires { 6 * k + 6 ≤ length list.old }
-        ensures { list.new ≡ put list.old (6 * k) (words_of self) }
+        ensures { list.new ≡ put list.old (6 * k) (row_words self) }
     {
         list[6 * k] = self.kind;
         list[6 * k + 1] = self.parent;
@@ -167,7 +167,7 @@ struct Rows<'a> {
 }
 
 impl Rows<'_> {
-    ghost use Rattle.table.specs.Inner.Words.{words_of};
+    ghost use Rattle.table.specs.Inner.Words.{row_words};
 
     // Where the name of entry k stands in the image; the root has none.
     fn image_place(&self, k: usize) -> u32
@@ -208,9 +208,9 @@ impl Rows<'_> {
     fn read(&self, k: usize, parent: u32, size: u32) -> Row
         requires within { k < table_of.count self.now.table.now }
         requires parent { parent ≡ parent_of (nodes_of self.now.table.now) k }
-        requires size { let node = slice_index_or (nodes_of self.now.table.now) k none in
+        requires size { let node = slice_index_or (nodes_of self.now.table.now) k empty_root in
             size ≡ length (name_of node) }
-        ensures { words_of result ≡ row_of self.now.base self.now.table.now k }
+        ensures { row_words result ≡ entry_row self.now.base self.now.table.now k }
     {
         Row {
             kind: u32::from(self.table.is_directory(k)),
@@ -228,9 +228,9 @@ impl Rows<'_> {
         requires few { k < 2 ^ 32 }
         requires room { 6 * table_of.count self.now.table.now ≤ length list.old }
         requires parents_in { HasParents self.now.table.now k list.old }
-        requires size { let node = slice_index_or (nodes_of self.now.table.now) k none in
+        requires size { let node = slice_index_or (nodes_of self.now.table.now) k empty_root in
             size ≡ length (name_of node) }
-        ensures { list.new ≡ put list.old (6 * k) (row_of self.now.base self.now.table.now k) }
+        ensures { list.new ≡ put list.old (6 * k) (entry_row self.now.base self.now.table.now k) }
     {
         let parent = self.parent_in(list, k) as u32;
         self.read(k, parent, size).write(list, k);

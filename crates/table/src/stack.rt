@@ -16,13 +16,13 @@ pub struct Stack {
 
 impl Model for Stack {
     ghost use Rattle.std.specs.Prelude.{ℕ, List};
-    ghost use Rattle.table.specs.Inner.Reading.{open_in, Stacked};
+    ghost use Rattle.table.specs.Inner.Reading.{open_in, IsStacked};
 
     ghost Value = { List ℕ };
 
     ghost view = { λ s. open_in s.words s.depth };
 
-    ghost invariant = { λ s. Stacked s.words s.depth };
+    ghost invariant = { λ s. IsStacked s.words s.depth };
 }
 
 impl Stack {

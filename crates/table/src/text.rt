@@ -1,11 +1,11 @@
 // The texts of a table, unit by unit: bytes up to a zero byte, or up to the table's end.
 ghost use Rattle.std.specs.Prelude.{◌≡◌, false, ◌+◌};
-ghost use Rattle.tree.specs.Table.{dots};
+ghost use Rattle.tree.specs.Table as table_of;
 ghost use Rattle.table.specs.Inner.Texts as texts_of;
-ghost use Rattle.table.specs.Inner.Texts.{clean_from, HasNoLead, CleanTo, nameless};
+ghost use Rattle.table.specs.Inner.Texts.{HasNoLead, CleanTo, is_nameless};
 
 use crate::units::Units;
-use crate::{names, passing, units};
+use crate::{name_tests, passing, units};
 
 /// The text that starts at `at`, up to its zero byte or the table's end.
 pub fn text_at(table: &[u8], at: usize) -> &[u8]
@@ -45,7 +45,8 @@ const CHART: [u8; 256] = *b"\
 // names of 40 bytes.
 fn pass_clean(table: &[u8], from: usize) -> usize
     ensures no_lead { HasNoLead table.now from result }
-    ensures clean { clean_from table.now from ≡ clean_from table.now result }
+    ensures clean { texts_of.is_clean_from table.now from
+        ≡ texts_of.is_clean_from table.now result }
 {
     if table.len() == 0 {
         return from;
@@ -89,7 +90,7 @@ pub fn clean_end(table: &[u8], from: usize) -> usize
 // Whether each unit from `from` on is 0, or plain and safe: then so are those of each text that does not
 // start inside a pair.
 pub fn is_clean_from(table: &[u8], from: usize) -> bool
-    ensures { result ≡ clean_from table.now from }
+    ensures { result ≡ texts_of.is_clean_from table.now from }
 {
     let from = passing::pass_clean_units(table, from);
     Units::new(&table[from.min(table.len())..]).all(|unit| unit.is_clean())
@@ -98,15 +99,15 @@ pub fn is_clean_from(table: &[u8], from: usize) -> bool
 /// Whether the text at `at` is `.` or `..`: three bytes tell. No text is where nothing is.
 #[cold]
 pub fn is_dots(table: &[u8], at: usize) -> bool
-    ensures { result ≡ dots (texts_of.text_at table.now at) }
+    ensures { result ≡ table_of.is_dots (texts_of.text_at table.now at) }
 {
     let end = at.saturating_add(3).min(table.len());
-    names::is_dots(text_at(&table[..end], at))
+    name_tests::is_dots(text_at(&table[..end], at))
 }
 
 /// Whether the text at `at` is empty, `.` or `..`. A byte tells most texts.
 pub fn is_nameless_at(table: &[u8], at: usize) -> bool
-    ensures { result ≡ nameless (texts_of.text_at table.now at) }
+    ensures { result ≡ is_nameless (texts_of.text_at table.now at) }
 {
     match units::byte_at(table, at) {
         0 => true,

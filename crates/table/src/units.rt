@@ -2,10 +2,10 @@
 // A name is judged, and a path is cut, by units.
 ghost use Rattle.std.specs.Prelude.{◌≡◌, ◌==◌, slice_index};
 ghost use Rattle.std.specs.Iterator.{YieldsFirstBy, item_count};
-ghost use Rattle.tree.specs.Units.{lead_byte, trail_byte, units};
-ghost use Rattle.tree.specs.Table.{plain_byte, safe_byte, plain_unit, safe_unit};
-ghost use Rattle.tree.specs.Inner.Pairs.{pair_at};
-ghost use Rattle.table.specs.Inner.Texts.{clean_byte, clean_unit, end_unit};
+ghost use Rattle.tree.specs.Units.{is_lead_byte, is_trail_byte, units};
+ghost use Rattle.tree.specs.Table.{is_plain_byte, is_safe_byte, is_plain_unit, is_safe_unit};
+ghost use Rattle.tree.specs.Inner.Pairs.{is_pair_at};
+ghost use Rattle.table.specs.Inner.Texts.{is_clean_byte, is_clean_unit};
 ghost use Rattle.table.specs.Inner.Read.{unit_of};
 
 use std::marker::Model;
@@ -19,35 +19,35 @@ pub fn byte_at(text: &[u8], at: usize) -> u8
 
 /// Whether a pair may start with this byte.
 pub fn is_lead(b: u8) -> bool
-    ensures { result ≡ lead_byte b }
+    ensures { result ≡ is_lead_byte b }
 {
     matches!(b, 0x81..=0x9F | 0xE0..=0xFC)
 }
 
 // Whether a pair may end with this byte.
 fn is_trail(b: u8) -> bool
-    ensures { result ≡ trail_byte b }
+    ensures { result ≡ is_trail_byte b }
 {
     matches!(b, 0x40..=0x7E | 0x80..=0xFC)
 }
 
 /// Whether the unit at `at` is a pair.
 pub fn is_pair(text: &[u8], at: usize) -> bool
-    ensures { result ≡ pair_at text.now at }
+    ensures { result ≡ is_pair_at text.now at }
 {
     is_lead(byte_at(text, at)) && is_trail(byte_at(text, at + 1))
 }
 
 // Whether a name may have this byte as a unit.
 fn is_plain(b: u8) -> bool
-    ensures { result ≡ plain_byte b }
+    ensures { result ≡ is_plain_byte b }
 {
     matches!(b, 0x20..=0x7E | 0xA1..=0xDF)
 }
 
 // Whether this byte as a unit is safe in a name.
 fn is_safe(b: u8) -> bool
-    ensures { result ≡ safe_byte b }
+    ensures { result ≡ is_safe_byte b }
 {
     !matches!(b, b'/' | b'\\' | b':')
 }
@@ -55,7 +55,7 @@ fn is_safe(b: u8) -> bool
 /// Whether no name is refused for this byte where it is a unit: the end of a text, or plain and
 /// safe. Most are below 0x7F, and are looked at first.
 pub fn is_clean(b: u8) -> bool
-    ensures { result ≡ clean_byte b }
+    ensures { result ≡ is_clean_byte b }
 {
     match b {
         0x20..=0x7E => is_safe(b),
@@ -73,7 +73,7 @@ pub enum Unit {
 impl Unit {
     /// Whether a name may have this unit: a pair, or a byte 0x20 to 0x7E or 0xA1 to 0xDF.
     pub fn is_plain(self) -> bool
-        ensures { result ≡ plain_unit (unit_of self) }
+        ensures { result ≡ is_plain_unit (unit_of self) }
     {
         match self {
             Unit::Single(b) => is_plain(b),
@@ -83,7 +83,7 @@ impl Unit {
 
     /// Whether this unit is safe in a name: not `/`, `\` or `:`.
     pub fn is_safe(self) -> bool
-        ensures { result ≡ safe_unit (unit_of self) }
+        ensures { result ≡ is_safe_unit (unit_of self) }
     {
         match self {
             Unit::Single(b) => is_safe(b),
@@ -91,16 +91,9 @@ impl Unit {
         }
     }
 
-    /// Whether a text ends here: at a zero byte.
-    pub fn is_end(self) -> bool
-        ensures { result ≡ end_unit (unit_of self) }
-    {
-        matches!(self, Unit::Single(0))
-    }
-
     /// Whether no name is refused for this unit, nor a text's end.
     pub fn is_clean(self) -> bool
-        ensures { result ≡ clean_unit (unit_of self) }
+        ensures { result ≡ is_clean_unit (unit_of self) }
     {
         match self {
             Unit::Single(b) => is_clean(b),

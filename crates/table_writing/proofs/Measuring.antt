@@ -5,7 +5,7 @@ use mathlib.Core.List.{List, tail}
 use native.Mathlib.Omega.{arith}
 use borrow.Author.Tests.{lt-ltb, le-ltb}
 use lib.ListN.{length, get_or}
-use Rattle.tree.specs.Table.{name_of, none, count, name_offset, name_at, nodes_of, texts_of}
+use Rattle.tree.specs.Table.{name_of, empty_root, count, name_offset, name_at, nodes_of, texts_of}
 use Rattle.tree.proofs.Laws.Accepted.{length-nodes_of, name_of-node_at}
 use Rattle.tree.proofs.Laws.Size.{size_to, size-root, size-next, size-whole}
 use Rattle.tree.proofs.Laws.Writing.{start-inside, start-end}
@@ -36,7 +36,7 @@ module _ (tab : List ℕ) (n size k : ℕ) (u : Upto tab n size k) where
   entries = length-nodes_of tab ∙ count-is tab n u.valid
 
   module _ (name : ℕ) (more : k < n) (e : name ≡ name_size tab n k) where
-    named : name ≡ length (name_of (get_or (nodes_of tab) k none))
+    named : name ≡ length (name_of (get_or (nodes_of tab) k empty_root))
     unfolding name_size
     named = rw (node_at_lem tab n k u.valid u.low more, name_of-node_at tab n k) e
 

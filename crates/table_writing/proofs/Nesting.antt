@@ -9,7 +9,7 @@ use native.Mathlib.Omega.{arith}
 use borrow.Author.Tests.{eq-eqb, lt-ltb, eqb-true, eqb-false, ltb-true}
 use lib.ListN.{get_or}
 use lib.Dec.{eqb, ltb}
-use Rattle.tree.specs.Table.{none, kind, size_or_next, count, node_with, node_at, nodes_of, encloses, parent_below, parent_of}
+use Rattle.tree.specs.Table.{empty_root, kind, size_or_next, count, node_with, node_at, nodes_of, is_enclosing, parent_below, parent_of}
 use Rattle.table_writing.specs.Inner.Valid.{IsValid}
 use Rattle.table_writing.specs.Inner.Flat.{after_in}
 use Rattle.tree.proofs.Laws.Accepted.{get_d-nodes_from}
@@ -35,23 +35,23 @@ pub count-is : (tab : List ℕ) (n : ℕ) → IsValid tab n → count tab ≡ n
 unfolding count
 count-is tab n v = omega (arith, v.reach, v.some)
 
-pub node_at_lem : (tab : List ℕ) (n i : ℕ) → IsValid tab n → 0 < i → i < n → get_or (nodes_of tab) i none ≡ node_at tab n i
+pub node_at_lem : (tab : List ℕ) (n i : ℕ) → IsValid tab n → 0 < i → i < n → get_or (nodes_of tab) i empty_root ≡ node_at tab n i
 unfolding nodes_of
 node_at_lem tab n zero v p h = absurd (omega arith)
 node_at_lem tab n (suc i) v p h =
     let e : 1 + i ≡ suc i = omega arith in
     rw (count-is tab n v) (rw e at (get_d-nodes_from tab n 1 (n - 1) i (omega arith)))
 
-encloses-with : (t : ℕ) (nm : List ℕ) (a b k : ℕ) → t ≤ 1 → encloses (node_with t nm a b) k ≡ cond (eqb t 1) (ltb k b) false
-encloses-with zero nm a b k h = refl
-encloses-with (suc zero) nm a b k h = refl
-encloses-with (suc (suc t)) nm a b k h = absurd (omega arith)
+is_enclosing-with : (t : ℕ) (nm : List ℕ) (a b k : ℕ) → t ≤ 1 → is_enclosing (node_with t nm a b) k ≡ cond (eqb t 1) (ltb k b) false
+is_enclosing-with zero nm a b k h = refl
+is_enclosing-with (suc zero) nm a b k h = refl
+is_enclosing-with (suc (suc t)) nm a b k h = absurd (omega arith)
 
-pub encloses-at : (tab : List ℕ) (n i k : ℕ) → IsValid tab n → i < n → encloses (get_or (nodes_of tab) i none) k ≡ cond (eqb (kind tab i) 1) (ltb k (size_or_next tab i)) false
+pub is_enclosing-at : (tab : List ℕ) (n i k : ℕ) → IsValid tab n → i < n → is_enclosing (get_or (nodes_of tab) i empty_root) k ≡ cond (eqb (kind tab i) 1) (ltb k (size_or_next tab i)) false
 unfolding nodes_of node_at
-encloses-at tab n zero k v h = rw (eq-eqb (kind tab 0) 1 v.root, count-is tab n v, v.reach)
-encloses-at tab n (suc i) k v h =
-    rw (node_at_lem tab n (suc i) v (omega arith) h) (encloses-with (kind tab (suc i)) _ _ (size_or_next tab (suc i)) k (v.kinds (suc i) h))
+is_enclosing-at tab n zero k v h = rw (eq-eqb (kind tab 0) 1 v.root, count-is tab n v, v.reach)
+is_enclosing-at tab n (suc i) k v h =
+    rw (node_at_lem tab n (suc i) v (omega arith) h) (is_enclosing-with (kind tab (suc i)) _ _ (size_or_next tab (suc i)) k (v.kinds (suc i) h))
 
 -- ---- the entry after c is a directory's "next" or the number after c
 
@@ -100,13 +100,13 @@ module _ (tab : List ℕ) (n k d : ℕ) (v : IsValid tab n) (kn : k < n) (dir : 
       (⊎_elim
       (λ (e : j ≡ d).
       let d' : d < n = omega arith in
-      rw (e, encloses-at tab n d k v d', eq-eqb (kind tab d) 1 dir, lt-ltb k (size_or_next tab d) past))
+      rw (e, is_enclosing-at tab n d k v d', eq-eqb (kind tab d) 1 dir, lt-ltb k (size_or_next tab d) past))
       (λ (x : d < j).
       let ih : parent_below (nodes_of tab) k j ≡ d = parent_in j x (omega arith) in
       let h : j < n = omega arith in
-      by (encloses (get_or (nodes_of tab) j none) k) j (parent_below (nodes_of tab) k j) d
+      by (is_enclosing (get_or (nodes_of tab) j empty_root) k) j (parent_below (nodes_of tab) k j) d
       (λ e.
-      let t = both (eqb (kind tab j) 1) (ltb k (size_or_next tab j)) (rw (encloses-at tab n j k v h) at e) in
+      let t = both (eqb (kind tab j) 1) (ltb k (size_or_next tab j)) (rw (is_enclosing-at tab n j k v h) at e) in
       omega (arith, ltb-true k (size_or_next tab j) t.1, f j x (omega arith) (eqb-true (kind tab j) 1 t.0)))
       (λ e. ih)))
       (lt-or-eq-or-gt j d)

@@ -15,23 +15,23 @@ use Rattle.endian.specs.Laws.Stored.{be24-same, be32-same}
 use Rattle.refusal.specs.Laws.Tests.{lt-or-eq-or-gt}
 use Rattle.tree.specs.Table.{Node, name_of, kind, name_offset, offset_or_parent, size_or_next, node_with, node_bytes}
 use Rattle.tree.proofs.Laws.WrittenEntries.{length-node_bytes}
-use Rattle.tree.specs.Insert.{bump, node_before, node_after, shifted}
+use Rattle.tree.specs.Insert.{raised_next, node_before, node_after, number_after_insert}
 use Rattle.tree.proofs.Laws.Records.{Twelve}
-use Rattle.tree.specs.Inner.Patch.{stored, record_before, record_after, patched_record}
+use Rattle.tree.specs.Inner.Patch.{stored_node, record_before, record_after, patched_record}
 use Rattle.table_writing.specs.Inner.Flat.{record_bytes}
 use Rattle.table_writing.specs.Inner.Inserting.{new_node, next_before, IsRaisable}
 use Rattle.table_writing.proofs.Puts.{put-fields}
 use Rattle.endian.specs.Laws.Stays.{byte-stays, be24-stays, be32-stays}
 use Rattle.table_writing.specs.declared.kind.Kind.{Kind}
 use Rattle.table_writing.specs.declared.kind.Kind.TheVariants.{File, Directory}
-use Rattle.table_writing.specs.Inner.Kind.{number_of, kind_is_directory}
+use Rattle.table_writing.specs.Inner.Kind.{kind_number, kind_is_directory}
 
 -- what was read as a directory is stored as 1, and what was not is not
-pub directory-one : (x : Kind) (n : ℕ) → number_of x ≡ n → kind_is_directory x ≡ true → n ≡ 1
+pub directory-one : (x : Kind) (n : ℕ) → kind_number x ≡ n → kind_is_directory x ≡ true → n ≡ 1
 directory-one File n e h = absurd (cc h)
 directory-one Directory n e h = sym e
 
-pub file-not-one : (x : Kind) (n : ℕ) → number_of x ≡ n → kind_is_directory x ≡ false → n ≡ 1 → ⊥
+pub file-not-one : (x : Kind) (n : ℕ) → kind_number x ≡ n → kind_is_directory x ≡ false → n ≡ 1 → ⊥
 file-not-one File n e h o = omega arith
 file-not-one Directory n e h o = absurd (cc h)
 
@@ -51,7 +51,7 @@ module _ (s : List ℕ) (q grow k : ℕ) where
   unfolding record_after
   after-file e = rw e
 
-  pub after-directory : kind s k ≡ 1 → record_bytes (kind s k) (name_offset s k + grow) (shifted q (offset_or_parent s k)) (suc (size_or_next s k)) ≡ record_after s q grow k
+  pub after-directory : kind s k ≡ 1 → record_bytes (kind s k) (name_offset s k + grow) (number_after_insert q (offset_or_parent s k)) (suc (size_or_next s k)) ≡ record_after s q grow k
   unfolding record_after
   after-directory e = rw e
 
@@ -66,11 +66,11 @@ new-name false nm q = refl
 
 pub before-twelve : (s : List ℕ) (p k : ℕ) → length (record_before s p k) ≡ 12
 unfolding record_before
-before-twelve s p k = length-node_bytes (offset_or_parent s k) (name_offset s k) (node_before p k (stored s k))
+before-twelve s p k = length-node_bytes (offset_or_parent s k) (name_offset s k) (node_before p k (stored_node s k))
 
 pub after-twelve : (s : List ℕ) (q grow k : ℕ) → length (record_after s q grow k) ≡ 12
 unfolding record_after
-after-twelve s q grow k = length-node_bytes (shifted q (offset_or_parent s k)) (name_offset s k + grow) (node_after (stored s k))
+after-twelve s q grow k = length-node_bytes (number_after_insert q (offset_or_parent s k)) (name_offset s k + grow) (node_after (stored_node s k))
 
 -- ---- the next of an entry before the new one
 
@@ -79,22 +79,22 @@ both : (t : Bool) (a b x : ℕ) → a ≡ x → b ≡ x → cond t a b ≡ x
 both true a b x e f = e
 both false a b x e f = f
 
-bump-past : (p n : ℕ) → p < n → bump p n ≡ n + 1
-unfolding bump
-bump-past p n h = rw (lt-ltb p n h) (sym (add-one n))
+raised_next-past : (p n : ℕ) → p < n → raised_next p n ≡ n + 1
+unfolding raised_next
+raised_next-past p n h = rw (lt-ltb p n h) (sym (add-one n))
 
-bump-ended : (p n : ℕ) → n ≤ p → bump p n ≡ n
-unfolding bump
-bump-ended p n h = rw (le-ltb p n h)
+raised_next-ended : (p n : ℕ) → n ≤ p → raised_next p n ≡ n
+unfolding raised_next
+raised_next-ended p n h = rw (le-ltb p n h)
 
 next-raised : (t p k n : ℕ) → t ≡ 1 → k ≤ p → p < n → next_before t p k n ≡ n + 1
-next-raised t p k n e h g = rw (eq-eqb t 1 e, le-leb k p h, bump-past p n g)
+next-raised t p k n e h g = rw (eq-eqb t 1 e, le-leb k p h, raised_next-past p n g)
 
 next-file : (t p k n : ℕ) → (t ≡ 1 → ⊥) → next_before t p k n ≡ n
 next-file t p k n e = rw (ne_eqb t 1 e)
 
 next-ended : (t p k n : ℕ) → n ≤ p → next_before t p k n ≡ n
-next-ended t p k n h = both (eqb t 1) (cond (leb k p) (bump p n) n) n n (both (leb k p) (bump p n) n n (bump-ended p n h) refl) refl
+next-ended t p k n h = both (eqb t 1) (cond (leb k p) (raised_next p n) n) n n (both (leb k p) (raised_next p n) n n (raised_next-ended p n h) refl) refl
 
 next-between : (t p k n : ℕ) → p < k → next_before t p k n ≡ n
 next-between t p k n h = rw (lt-leb k p h) (both (eqb t 1) n n n refl refl)

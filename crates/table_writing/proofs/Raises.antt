@@ -9,7 +9,7 @@ use lib.ListN.{length, get_or}
 use Rattle.endian.specs.Bytes.{put, be24, be32, be24_bytes, be32_bytes, AllBytes}
 use Rattle.endian.specs.Laws.Stored.{length-put, put-after, be32-same}
 use Rattle.tree.specs.Table.{kind, name_offset, offset_or_parent, size_or_next}
-use Rattle.tree.specs.Insert.{shifted}
+use Rattle.tree.specs.Insert.{number_after_insert}
 use Rattle.tree.specs.Inner.Patch.{record_after}
 use Rattle.endian.specs.Laws.Stays.{be32-stays}
 use Rattle.table_writing.proofs.Patches.{after-file, after-directory}
@@ -78,11 +78,11 @@ module _ (s : List ℕ) (q grow k : ℕ) (room : 12 * k + 12 ≤ length s) (know
       rw (first-bytes, ← after-file s q grow k file) (rw stays at e)
 
   words-raised : kind s k ≡ 1 →
-      put (put (put s (12 * k) (be32_bytes (be32 s (12 * k) + grow))) (12 * k + 4) (be32_bytes (shifted q (offset_or_parent s k)))) (12 * k + 8) (be32_bytes (size_or_next s k + 1))
+      put (put (put s (12 * k) (be32_bytes (be32 s (12 * k) + grow))) (12 * k + 4) (be32_bytes (number_after_insert q (offset_or_parent s k)))) (12 * k + 8) (be32_bytes (size_or_next s k + 1))
       ≡ put s (12 * k) (record_after s q grow k)
   words-raised e =
       let x : List ℕ = kind s k ∷ be24_bytes (name_offset s k + grow) in
-      let a : List ℕ = be32_bytes (shifted q (offset_or_parent s k)) in
+      let a : List ℕ = be32_bytes (number_after_insert q (offset_or_parent s k)) in
       let b : List ℕ = be32_bytes (suc (size_or_next s k)) in
       rw (
         first-bytes,
@@ -94,7 +94,7 @@ module _ (s : List ℕ) (q grow k : ℕ) (room : 12 * k + 12 ≤ length s) (know
 
   -- by what is read before each word is written
   pub raised-directory : kind s k ≡ 1 → (first : ℕ) → first ≡ be32 s (12 * k) → (t₁ : List ℕ) → t₁ ≡ put s (12 * k) (be32_bytes (first + grow)) →
-      (place : ℕ) → place ≡ be32 t₁ (12 * k + 4) → (place' : ℕ) → place' ≡ shifted q place → (t₂ : List ℕ) → t₂ ≡ put t₁ (12 * k + 4) (be32_bytes place') →
+      (place : ℕ) → place ≡ be32 t₁ (12 * k + 4) → (place' : ℕ) → place' ≡ number_after_insert q place → (t₂ : List ℕ) → t₂ ≡ put t₁ (12 * k + 4) (be32_bytes place') →
       (next : ℕ) → next ≡ be32 t₂ (12 * k + 8) → (t₃ : List ℕ) → t₃ ≡ put t₂ (12 * k + 8) (be32_bytes (next + 1)) → t₃ ≡ put s (12 * k) (record_after s q grow k)
   raised-directory e first r₁ t₁ e₁ place r₂ place' f t₂ e₂ next r₃ t₃ e₃ =
       let p : place ≡ offset_or_parent s k = r₂ ∙ place_read s k room t₁ (first + grow) e₁ in

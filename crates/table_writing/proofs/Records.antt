@@ -13,8 +13,8 @@ use Rattle.tree.specs.Table.{kind, name_offset, offset_or_parent, size_or_next, 
 use Rattle.table_writing.specs.Inner.Valid.{name_size}
 use Rattle.table_writing.specs.declared.kind.Kind.{Kind}
 use Rattle.table_writing.specs.declared.kind.Kind.TheVariants.{File, Directory}
-use Rattle.table_writing.specs.Inner.Kind.{number_of}
-use Rattle.table_writing.specs.Inner.Flat.{place_of, record_at, put_text, record_bytes}
+use Rattle.table_writing.specs.Inner.Kind.{kind_number}
+use Rattle.table_writing.specs.Inner.Flat.{text_place, record_at, put_text, record_bytes}
 use Rattle.endian.proofs.Parts.{put-append}
 
 fields-of : (t : ℕ) (nm : List ℕ) (a b p o : ℕ) → t ≤ 1 → record_bytes t o (cond (eqb t 0) a p) b ≡ node_bytes p o (node_with t nm a b)
@@ -23,12 +23,12 @@ fields-of (suc zero) nm a b p o h = refl
 fields-of (suc (suc t)) nm a b p o h = absurd (omega arith)
 
 -- there are two kinds
-few-kinds : (x : Kind) → number_of x ≤ 1
+few-kinds : (x : Kind) → kind_number x ≤ 1
 few-kinds File = omega arith
 few-kinds Directory = omega arith
 
-pub record_is : (tab : List ℕ) (n parent k name : ℕ) (x : Kind) (place next : ℕ) → number_of x ≡ kind tab k → place ≡ place_of tab parent k → next ≡ size_or_next tab k →
-    record_bytes (number_of x) name place next ≡ node_bytes parent name (node_at tab n k)
+pub record_is : (tab : List ℕ) (n parent k name : ℕ) (x : Kind) (place next : ℕ) → kind_number x ≡ kind tab k → place ≡ text_place tab parent k → next ≡ size_or_next tab k →
+    record_bytes (kind_number x) name place next ≡ node_bytes parent name (node_at tab n k)
 unfolding node_at
 record_is tab n parent k name x place next e p q =
     let known : kind tab k ≤ 1 = omega (arith, few-kinds x) in

@@ -1,10 +1,10 @@
 -- A table that can be written anew, seen as its bytes: its entries stand in it. Assumes nothing.
 use Rattle.std.specs.Prelude.{ℕ, ◌≡◌, ◌+◌, ◌-◌, ◌*◌, ◌≤◌, ◌<◌, List, length, take, drop}
 use Rattle.std.proofs.Common.{ap, sym, ◌∙◌, arith}
-use Rattle.tree.specs.Table.{count, kind, name_offset, up_to0, name_at}
+use Rattle.tree.specs.Table.{count, kind, name_offset, first_text, name_at}
 use Rattle.table_writing.specs.Inner.Valid.{name_size, IsValid}
 use Rattle.table_writing.proofs.Nesting.{count-is}
-use Rattle.tree.proofs.Laws.Texts.{take-up_to0}
+use Rattle.tree.proofs.Laws.Texts.{take-first_text}
 
 pub counted : (tab value : List ℕ) (n : ℕ) → IsValid tab n → tab ≡ value → n ≡ count value
 counted tab value n v e = sym (count-is tab n v) ∙ ap count e
@@ -27,12 +27,12 @@ held tab value n k v e h =
 
 -- its name
 module _ (tab value : List ℕ) (n k : ℕ) (v : IsValid tab n) (e : tab ≡ value) (some : 0 < k) (h : k < count value) (offset : ℕ) (read : offset ≡ name_offset tab k) where
-  pub name-held : 12 * n + offset + length (up_to0 (drop (12 * n + offset) tab)) < length tab
+  pub name-held : 12 * n + offset + length (first_text (drop (12 * n + offset) tab)) < length tab
   unfolding name_size name_at
   name-held = rw read (v.named k some (held tab value n k v e h).inside)
 
-  pub name-read : (len : ℕ) → len ≡ length (up_to0 (drop (12 * n + offset) tab)) → take (12 * n + offset + len - (12 * n + offset)) (drop (12 * n + offset) tab) ≡ name_at value (count value) (name_offset value k)
+  pub name-read : (len : ℕ) → len ≡ length (first_text (drop (12 * n + offset) tab)) → take (12 * n + offset + len - (12 * n + offset)) (drop (12 * n + offset) tab) ≡ name_at value (count value) (name_offset value k)
   unfolding name_at
   name-read len l =
       let z : 12 * n + offset + len - (12 * n + offset) ≡ len = omega arith in
-      rw (z, l, take-up_to0 (drop (12 * n + offset) tab), read, ← (counted tab value n v e), ← e)
+      rw (z, l, take-first_text (drop (12 * n + offset) tab), read, ← (counted tab value n v e), ← e)

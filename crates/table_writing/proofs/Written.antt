@@ -8,18 +8,18 @@ use native.Mathlib.Omega.{arith}
 use native.Mathlib.Nat.{zero-add}
 use lib.ListN.{length, get_or, take, drop}
 use lib.Seq.{take-append-le, drop-append-le}
-use Rattle.endian.specs.Bytes.{put, be32_bytes}
+use Rattle.endian.specs.Bytes.{put}
 use Rattle.endian.specs.Laws.Stored.{length-put, put_in, drop-put}
-use Rattle.tree.specs.Table.{Node, file, directory, none, name_offset, size_or_next, parent_below, parent_of, texts_of, encode}
+use Rattle.tree.specs.Table.{Node, file, directory, empty_root, name_offset, size_or_next, parent_below, parent_of, texts_of, encode}
 use Rattle.tree.specs.Inner.WellFormed.{IsWellFormed}
 use Rattle.tree.proofs.Laws.WrittenEntries.{length-encode}
 use Rattle.tree.proofs.Laws.Nesting.{parent-most}
 use Rattle.tree.proofs.Laws.WellNested.{root_is, next-bounds}
-use Rattle.tree.specs.Insert.{insert_at, set_place}
+use Rattle.tree.specs.Insert.{insert_at}
 use Rattle.tree.proofs.Laws.InsertLaws.{Fresh}
 use Rattle.tree.proofs.Laws.Writing.{text_start, start-most, Fields, written-fields}
 use Rattle.tree.specs.Inner.Patch.{insert_patch}
-use Rattle.tree.proofs.Laws.PatchLaws.{place-patched, insert-patched, offset_read, next-read}
+use Rattle.tree.proofs.Laws.PatchLaws.{insert-patched, offset_read, next-read}
 use Rattle.tree.proofs.Laws.Size.{size-insert}
 use Rattle.table_writing.specs.Inner.Inserting.{new_node, IsRaisable, IsInsertable}
 use Rattle.table_writing.proofs.Patches.{SameEntry, same-entry, raisable-same, new-name}
@@ -49,14 +49,6 @@ same-front : (b t : List ℕ) (k : ℕ) → length t ≤ length b → 12 * k + 1
 same-front b t k h f =
     same-entry (put b 0 t) t k (λ i l. rw (zero-add i) at (put_in b 0 t (omega arith) i (omega arith)))
 
--- ---- a file's place
-
-pub place-written : (b : List ℕ) (offset size k : ℕ) (nodes : List Node) (nm : List ℕ) (a e : ℕ) → get_or nodes k none ≡ file nm a e → k < length nodes →
-    put (put b 0 (encode nodes)) (12 * k + 4) (be32_bytes offset ++ be32_bytes size) ≡ put b 0 (encode (set_place k offset size nodes))
-place-written b offset size k nodes nm a e here h =
-    put-inside b (encode nodes) (12 * k + 4) (be32_bytes offset ++ be32_bytes size) (omega (arith, length-encode nodes))
-    ∙ ap (put b 0) (place-patched offset size k nodes nm a e here h)
-
 -- ---- one entry more
 
 parent-zero : (nodes : List Node) → parent_of nodes 0 ≤ 0
@@ -74,7 +66,7 @@ fresh-new true nm q = refl
 fresh-new false nm q = (omega arith, omega arith)
 
 module _ (b : List ℕ) (nodes : List Node) (p q : ℕ) (pm : List ℕ) (d : Bool) (nm : List ℕ)
-    (w : IsWellFormed nodes) (here : get_or nodes p none ≡ directory pm q) (p<c : p < length nodes) (few : length nodes ≤ 16384)
+    (w : IsWellFormed nodes) (here : get_or nodes p empty_root ≡ directory pm q) (p<c : p < length nodes) (few : length nodes ≤ 16384)
     (fits : length (encode nodes) + 12 + length nm + 1 ≤ length b) (small : length (encode nodes) + 12 + length nm + 1 ≤ 2 ^ 24) where
   abbrev tab : List ℕ
   tab = encode nodes
@@ -85,7 +77,7 @@ module _ (b : List ℕ) (nodes : List Node) (p q : ℕ) (pm : List ℕ) (d : Boo
   short : length (texts_of (tail nodes)) < 2 ^ 24
   short = omega (arith, length-encode nodes)
 
-  fields : (k : ℕ) → k < length nodes → Fields tab k (parent_of nodes k) (text_start nodes k) (get_or nodes k none)
+  fields : (k : ℕ) → k < length nodes → Fields tab k (parent_of nodes k) (text_start nodes k) (get_or nodes k empty_root)
   fields k h = written-fields nodes k w (omega arith) short h
 
   same : (k : ℕ) → k < length nodes → SameEntry s tab k
@@ -94,20 +86,20 @@ module _ (b : List ℕ) (nodes : List Node) (p q : ℕ) (pm : List ℕ) (d : Boo
   root-next : size_or_next s 0 ≡ length nodes
   root-next =
       let h : 0 < length nodes = omega arith in
-      (same 0 h).nexts ∙ next-read tab 0 (parent_of nodes 0) (text_start nodes 0) (length nodes) [] (get_or nodes 0 none) (fields 0 h) (root_is nodes w)
+      (same 0 h).nexts ∙ next-read tab 0 (parent_of nodes 0) (text_start nodes 0) (length nodes) [] (get_or nodes 0 empty_root) (fields 0 h) (root_is nodes w)
 
   pub parent-next : size_or_next s p ≡ q
-  parent-next = (same p p<c).nexts ∙ next-read tab p (parent_of nodes p) (text_start nodes p) q pm (get_or nodes p none) (fields p p<c) here
+  parent-next = (same p p<c).nexts ∙ next-read tab p (parent_of nodes p) (text_start nodes p) q pm (get_or nodes p empty_root) (fields p p<c) here
 
   raisable : (k : ℕ) → k < length nodes → IsRaisable s k
   raisable k h =
       raisable-same s tab k (same k h)
-      (raisable-with tab k (length nodes) (parent_of nodes k) (text_start nodes k) (get_or nodes k none) few (omega (arith, parent-most nodes k))
+      (raisable-with tab k (length nodes) (parent_of nodes k) (text_start nodes k) (get_or nodes k empty_root) few (omega (arith, parent-most nodes k))
       (λ x n e. (next-bounds nodes k n x w e h).1) (fields k h))
 
   names : (k : ℕ) → k < length nodes → 12 * length nodes + name_offset s k ≤ length tab
   names k h =
-      omega (arith, (same k h).names, offset_read tab k (parent_of nodes k) (text_start nodes k) (get_or nodes k none) (fields k h), start-most nodes k h, length-encode nodes)
+      omega (arith, (same k h).names, offset_read tab k (parent_of nodes k) (text_start nodes k) (get_or nodes k empty_root) (fields k h), start-most nodes k h, length-encode nodes)
 
   pub insertable : IsInsertable s (length tab) p (length nm)
   insertable =

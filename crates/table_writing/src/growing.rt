@@ -2,17 +2,18 @@
 ghost use Rattle.std.specs.Prelude.{◌≡◌, ◌<◌, length, IfOk, OnOk, OnErr, ◌==◌, slice_index_or};
 ghost use Rattle.std.proofs.Props.{props};
 ghost use Rattle.table_writing.specs.Inner.Kind.{kind_is_directory};
-ghost use Rattle.tree.specs.Table.{none, parent_of, limits};
+ghost use Rattle.tree.specs.Table.{empty_root, parent_of, limits};
 ghost use Rattle.tree.specs.Inner.WellFormed.{IsGoodName};
 ghost use Rattle.tree.specs.Inner.Depths.{depth_of};
 ghost use Rattle.tree.specs.Lookup.{child_of, next_of};
-ghost use Rattle.table_writing.specs.Inner.Growth.{tree_in, Stands, IsDirectory, depth_allows};
+ghost use Rattle.table_writing.specs.Inner.Growth.{tree_in, Stands, IsDirectory, is_depth_allowed};
 ghost use Rattle.table_writing.specs.Inner.Standing.{sound-prop};
 
 use crate::kind::Kind;
 use crate::{patch, size};
 use refusal::{Refusal, Verdict};
 use table::{Table, fields};
+use tree::{ENTRIES_LIMIT, TEXTS_LIMIT};
 
 // No directory is in more than so many others, the root in none.
 const MOST_AROUND: usize = 64;
@@ -34,12 +35,12 @@ pub struct Growing<'a> {
 }
 
 impl<'a> Growing<'a> {
-    ghost use Rattle.table_writing.specs.Inner.Growing.{tree_of, added_to, HasBuilt};
+    ghost use Rattle.table_writing.specs.Inner.Growing.{growing_tree, added_to, HasBuilt};
 
     /// The table that was written into the first `size` bytes, where so many words are lent.
     pub fn new(bytes: &'a mut [u8], size: usize, words: usize) -> Growing<'a>
         requires { Stands bytes.old size words }
-        ensures tree { tree_of result ≡ tree_in bytes.old size }
+        ensures tree { growing_tree result ≡ tree_in bytes.old size }
         ensures bytes { result.bytes.now ≡ bytes.old }
         ensures size { result.size ≡ size }
         ensures words { result.words ≡ words }
@@ -52,24 +53,25 @@ impl<'a> Growing<'a> {
     // Kept: `IsDirectory` in four contracts: it is a fact about the number that is passed, another one in
     // each call.
     pub fn parent(&self, k: usize) -> usize
-        requires { IsDirectory (tree_of self.now) k }
-        ensures { result ≡ parent_of (tree_of self.now) k }
+        requires { IsDirectory (growing_tree self.now) k }
+        ensures { result ≡ parent_of (growing_tree self.now) k }
     {
         fields::offset_or_parent(self.bytes, k) as usize
     }
 
     /// The first child of entry k with that name; 17 if k is no directory, 18 if none has it.
     pub fn child(&self, k: usize, name: &[u8]) -> Result<u32, Refusal>
-        requires { k < length (tree_of self.now) }
-        ensures { result ≡ child_of (tree_of self.now) k name.now }
+        requires { k < length (growing_tree self.now) }
+        ensures { result ≡ child_of (growing_tree self.now) k name.now }
     {
         Table::new(&self.bytes[..self.size]).child(k, name)
     }
 
     // Whether an entry more in directory p is not too deep. Only directories can be.
     fn is_shallow(&self, p: usize, kind: Kind) -> bool
-        requires { IsDirectory (tree_of self.now) p }
-        ensures { result ≡ depth_allows (kind_is_directory kind) (depth_of (tree_of self.now) p) }
+        requires { IsDirectory (growing_tree self.now) p }
+        ensures { result
+            ≡ is_depth_allowed (kind_is_directory kind) (depth_of (growing_tree self.now) p) }
     {
         if !kind.is_directory() {
             return true;
@@ -87,16 +89,16 @@ impl<'a> Growing<'a> {
 
     // The limits of the tree with one entry more.
     fn check_limits(&self, p: usize, kind: Kind, name: &[u8]) -> Verdict
-        requires directory { IsDirectory (tree_of self.now) p }
+        requires directory { IsDirectory (growing_tree self.now) p }
         requires name { IsGoodName name.now }
         ensures { result ≡ limits (added_to self.now kind p name.now) self.now.words }
     {
         let count = endian::read_u32(self.bytes, 8) as usize;
-        if 16384 <= count {
+        if ENTRIES_LIMIT <= count {
             return Err(Refusal::LimitOrMemory);
         }
         let texts = self.size - 12 * count;
-        if size::TEXTS_LIMIT - texts <= name.len() {
+        if TEXTS_LIMIT - texts <= name.len() {
             return Err(Refusal::LimitOrMemory);
         }
         if self.words < 4 * (count + 3) {
@@ -113,11 +115,11 @@ impl<'a> Growing<'a> {
     /// if the tree then passes a limit, or the bytes are too few, and the table stays as it is.
     // Kept: the directory, the kind and the name are no struct, as in `patch::insert`.
     pub fn grow(&mut self, p: usize, kind: Kind, name: &[u8]) -> Result<usize, Refusal>
-        requires directory { IsDirectory (tree_of self.old) p }
+        requires directory { IsDirectory (growing_tree self.old) p }
         requires name { IsGoodName name.now }
-        ensures number { let directory = slice_index_or (tree_of self.old) p none in
+        ensures number { let directory = slice_index_or (growing_tree self.old) p empty_root in
             IfOk result (λ number. number ≡ next_of directory) }
-        ensures tree { OnOk result (tree_of self.new ≡ added_to self.old kind p name.now) }
+        ensures tree { OnOk result (growing_tree self.new ≡ added_to self.old kind p name.now) }
         ensures built { HasBuilt self.old self.new (added_to self.old kind p name.now) result }
         ensures err_bytes { OnErr result (self.new.bytes.now ≡ self.old.bytes.now) }
         ensures err_size { OnErr result (self.new.size ≡ self.old.size) }

@@ -1,7 +1,7 @@
 // What an entry is.
 ghost use Rattle.std.specs.Prelude.{◌≡◌, ◌+◌, ◌*◌, ◌≤◌, ◌<◌, length, IfSome, IfNone};
 ghost use Rattle.tree.specs.Table.{kind};
-ghost use Rattle.table_writing.specs.Inner.Kind.{number_of, kind_is_directory};
+ghost use Rattle.table_writing.specs.Inner.Kind.{kind_number, kind_is_directory};
 
 /// What an entry is, by the number that a table stores.
 #[derive(Clone, Copy, PartialEq, Eq, Debug)]
@@ -13,7 +13,7 @@ pub enum Kind {
 impl Kind {
     /// What the number of a table stands for, if it is one of the two.
     pub fn from_number(number: u8) -> Option<Kind>
-        ensures known { IfSome result (λ kind. number_of kind ≡ number) }
+        ensures known { IfSome result (λ kind. kind_number kind ≡ number) }
         ensures unknown { IfNone result (1 < number) }
     {
         match number {
@@ -27,7 +27,7 @@ impl Kind {
     pub fn of(table: &[u8], k: usize) -> Kind
         requires within { 12 * k + 12 ≤ length table.now }
         requires known { kind table.now k ≤ 1 }
-        ensures { number_of result ≡ kind table.now k }
+        ensures { kind_number result ≡ kind table.now k }
     {
         match table[12 * k] {
             0 => Kind::File,
@@ -37,7 +37,7 @@ impl Kind {
 
     /// The number that a table stores.
     pub fn number(self) -> u8
-        ensures { result ≡ number_of self }
+        ensures { result ≡ kind_number self }
     {
         self as u8
     }

@@ -3,9 +3,9 @@
 ghost use Rattle.std.specs.Prelude.{◌≡◌, ◌+◌, ◌*◌, ◌≤◌, ◌<◌, ◌^◌, length};
 ghost use Rattle.endian.specs.Bytes.{put};
 ghost use Rattle.tree.specs.Table.{name_offset};
-ghost use Rattle.tree.specs.Insert.{shifted};
+ghost use Rattle.tree.specs.Insert.{number_after_insert};
 ghost use Rattle.tree.specs.Inner.Patch.{record_before, record_after};
-ghost use Rattle.table_writing.specs.Inner.Record.{bytes_of};
+ghost use Rattle.table_writing.specs.Inner.Record.{bytes_of_record};
 ghost use Rattle.table_writing.specs.Inner.Inserting.{IsRaisable};
 ghost use Rattle.table_writing.specs.Inner.Entering.{new_bytes};
 
@@ -26,7 +26,7 @@ impl Shift {
     // The parent of a directory that moves behind the new entry: one more, if the parent moves too.
     fn parent(self, parent: u32) -> u32
         requires { parent + 1 < 2 ^ 32 }
-        ensures { result ≡ shifted self.number parent }
+        ensures { result ≡ number_after_insert self.number parent }
     {
         if self.number <= parent as usize {
             parent + 1
@@ -91,7 +91,7 @@ impl<'n> NewEntry<'n> {
         requires behind { self.now.parent < self.now.number }
         requires few { self.now.number ≤ 16384 }
         requires small { self.now.start < 2 ^ 24 }
-        ensures bytes { bytes_of result ≡ new_bytes self.now }
+        ensures bytes { bytes_of_record result ≡ new_bytes self.now }
         ensures name { result.name ≡ self.now.start }
     {
         match self.kind {

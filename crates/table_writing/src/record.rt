@@ -3,8 +3,8 @@ ghost use Rattle.std.specs.Prelude.{◌≡◌, ℕ, ◌+◌, ◌-◌, ◌*◌, �
 ghost use Rattle.endian.specs.Bytes.{put};
 ghost use Rattle.tree.specs.Table.{kind, count, node_at, node_bytes};
 ghost use Rattle.table_writing.specs.Inner.Valid.{name_size};
-ghost use Rattle.table_writing.specs.Inner.Flat.{record_bytes, place_of, record_at, put_text};
-ghost use Rattle.table_writing.specs.Inner.Record.{bytes_of};
+ghost use Rattle.table_writing.specs.Inner.Flat.{record_bytes, text_place, record_at, put_text};
+ghost use Rattle.table_writing.specs.Inner.Record.{bytes_of_record};
 
 use crate::kind::Kind;
 use crate::source::Source;
@@ -27,7 +27,7 @@ pub struct Record {
 // entry.
 fn place_of(table: &[u8], k: usize, parent: u32) -> u32
     requires { 12 * k + 12 ≤ length table.now }
-    ensures { result ≡ place_of table.now parent k }
+    ensures { result ≡ text_place table.now parent k }
 {
     match Kind::from_number(table[12 * k]) {
         Some(Kind::File) => fields::offset_or_parent(table, k),
@@ -40,7 +40,8 @@ impl Record {
     pub fn of(table: &[u8], k: usize, parent: u32, name: u32) -> Record
         requires within { 12 * k + 12 ≤ length table.now }
         requires known { kind table.now k ≤ 1 }
-        ensures bytes { (n : ℕ) → bytes_of result ≡ node_bytes parent name (node_at table.now n k) }
+        ensures bytes { (n : ℕ) → bytes_of_record result
+            ≡ node_bytes parent name (node_at table.now n k) }
         ensures name { result.name ≡ name }
     {
         Record {
@@ -55,7 +56,7 @@ impl Record {
     pub fn write(self, out: &mut [u8], k: usize)
         requires within { 12 * k + 12 ≤ length out.old }
         requires small { self.name < 2 ^ 24 }
-        ensures { out.new ≡ put out.old (12 * k) (bytes_of self) }
+        ensures { out.new ≡ put out.old (12 * k) (bytes_of_record self) }
     {
         write_fields(out, k, self.kind.number(), self.name, self.place, self.next);
     }

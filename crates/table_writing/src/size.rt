@@ -11,9 +11,6 @@ use crate::source::Source;
 use refusal::Refusal;
 use table::fields;
 
-/// A table with more bytes of texts than this is refused, with 9.
-pub const TEXTS_LIMIT: usize = 1048576;
-
 /// The entry after k in its directory, where a writer goes on. What is no directory is one entry long.
 pub fn after(table: &[u8], k: usize) -> usize
     requires { 12 * k + 12 ≤ length table.now }

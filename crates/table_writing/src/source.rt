@@ -2,15 +2,15 @@
 ghost use Rattle.std.specs.Prelude.{◌≡◌, ◌+◌, ◌*◌, ◌<◌};
 ghost use Rattle.tree.specs.Table as table_of;
 ghost use Rattle.tree.specs.Table.{name_offset, offset_or_parent, size_or_next, name_at};
-ghost use Rattle.table_writing.specs.Inner.Kind.{number_of};
+ghost use Rattle.table_writing.specs.Inner.Kind.{kind_number};
 ghost use Rattle.table_writing.specs.Inner.Measure.{measure_of};
 ghost use Rattle.table_writing.specs.Inner.Valid.{IsValid};
 
 use crate::kind::Kind;
-use crate::size::TEXTS_LIMIT;
 use refusal::Refusal;
 use std::marker::Model;
 use table::fields;
+use tree::TEXTS_LIMIT;
 
 /// A table that can be written anew: its directories nest, and its names end within it. Contracts see its
 /// bytes.
@@ -75,7 +75,7 @@ impl<'a> Source<'a> {
     /// What entry k is.
     pub fn kind(&self, k: usize) -> Kind
         requires { k < table_of.count self.now }
-        ensures value { number_of result ≡ table_of.kind self.now k }
+        ensures value { kind_number result ≡ table_of.kind self.now k }
         ensures valid { IsValid self.now (table_of.count self.now) }
     {
         Kind::of(self.bytes, k)

@@ -1,7 +1,7 @@
 -- Which entry a table is refused for. None is named where it is its root, its size, its texts as a whole, or too few working words.
 use Rattle.std.specs.Prelude.{ℕ, zero, suc, ◌+◌, ◌-◌, ◌*◌, Bool, not, ◌||◌, List, [], ◌∷◌, length, Option, None, Some, is_err, if◌then◌else◌, ◌==◌, nat_lt}
 use Rattle.refusal.specs.Refusal.{first}
-use Rattle.tree.specs.Table.{Node, name_of, kind, size_or_next, count, nodes_from, entry_verdict, entries_verdict, unended, shut, enter, name_verdict, next_verdict}
+use Rattle.tree.specs.Table.{Node, name_of, kind, size_or_next, count, nodes_from, entry_verdict, entries_verdict, is_unended, dirs_open_at, dirs_with, name_verdict, next_verdict}
 
 -- the first of n entries from k on that is refused for its place or its kind
 unfoldable pub first_refused : List ℕ → ℕ → ℕ → Option ℕ
@@ -12,8 +12,8 @@ first_refused tab k (suc n) = if is_err (entry_verdict tab k) then Some k else f
 unfoldable pub walk_refused : List ℕ → ℕ → List ℕ → ℕ → List Node → Option ℕ
 walk_refused tab c dirs k [] = None
 walk_refused tab c dirs k (x ∷ xs) =
-    if is_err (first (name_verdict tab c k (name_of x)) (next_verdict c (shut k dirs) k x)) then Some k
-    else walk_refused tab c (enter (shut k dirs) x) (suc k) xs
+    if is_err (first (name_verdict tab c k (name_of x)) (next_verdict c (dirs_open_at k dirs) k x)) then Some k
+    else walk_refused tab c (dirs_with (dirs_open_at k dirs) x) (suc k) xs
 
 -- the root is refused, or there are too many entries
 abbrev pub root_refused : List ℕ → Bool
@@ -21,7 +21,7 @@ root_refused tab = nat_lt (length tab) 12 || (not (kind tab 0 == 1) || nat_lt 16
 
 -- the texts of a table of c entries, the working words or a count of 0 are refused
 abbrev pub texts_refused : List ℕ → ℕ → ℕ → Bool
-texts_refused tab c words = unended tab c || (nat_lt 1048576 (length tab - 12 * c) || (nat_lt words (4 * (c + 2)) || size_or_next tab 0 == 0))
+texts_refused tab c words = is_unended tab c || (nat_lt 1048576 (length tab - 12 * c) || (nat_lt words (4 * (c + 2)) || size_or_next tab 0 == 0))
 
 -- in the order of `check`
 unfoldable pub refused_entry : List ℕ → ℕ → Option ℕ

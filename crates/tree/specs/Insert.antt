@@ -1,6 +1,6 @@
 -- A tree with one entry more, and with a file's place changed.
 use Rattle.std.specs.Prelude.{ℕ, zero, suc, List, [], ◌∷◌, map, set, if◌then◌else◌, nat_lt, nat_le, slice_index_or}
-use Rattle.tree.specs.Table.{Node, file, directory, none}
+use Rattle.tree.specs.Table.{Node, file, directory, empty_root}
 use Rattle.tree.specs.Lookup.{next_of}
 
 -- ---- the new entry is the last child, and a file has offset and size 0
@@ -13,13 +13,13 @@ abbrev pub empty_directory : List ℕ → ℕ → Node
 empty_directory nm k = directory nm (suc k)
 
 -- one more for a next that is past p
-unfoldable pub bump : ℕ → ℕ → ℕ
-bump p n = if nat_lt p n then suc n else n
+unfoldable pub raised_next : ℕ → ℕ → ℕ
+raised_next p n = if nat_lt p n then suc n else n
 
 -- entry k, which stays before the new one: directory p and those around it end one later
 abbrev pub node_before : ℕ → ℕ → Node → Node
 node_before p k (file nm offset size) = file nm offset size
-node_before p k (directory nm next) = directory nm (if nat_le k p then bump p next else next)
+node_before p k (directory nm next) = directory nm (if nat_le k p then raised_next p next else next)
 
 -- an entry that comes after the new one
 abbrev pub node_after : Node → Node
@@ -34,18 +34,18 @@ splice p new k (suc j) (x ∷ xs) = node_before p k x ∷ splice p new (suc k) j
 
 -- `new` as the last child of directory p: its number is p's next
 unfoldable pub insert_at : ℕ → Node → List Node → List Node
-insert_at p new nodes = splice p new 0 (next_of (slice_index_or nodes p none)) nodes
+insert_at p new nodes = splice p new 0 (next_of (slice_index_or nodes p empty_root)) nodes
 
 -- the number that entry k has after an insert at q
-unfoldable pub shifted : ℕ → ℕ → ℕ
-shifted q k = if nat_le q k then suc k else k
+unfoldable pub number_after_insert : ℕ → ℕ → ℕ
+number_after_insert q k = if nat_le q k then suc k else k
 
 -- ---- move and resize: a file's offset and size
 
-abbrev pub placed : ℕ → ℕ → Node → Node
-placed offset size (file nm a b) = file nm offset size
-placed offset size (directory nm next) = directory nm next
+abbrev pub node_at_place : ℕ → ℕ → Node → Node
+node_at_place offset size (file nm a b) = file nm offset size
+node_at_place offset size (directory nm next) = directory nm next
 
 -- entry k has this offset and size
 unfoldable pub set_place : ℕ → ℕ → ℕ → List Node → List Node
-set_place k offset size nodes = set nodes k (placed offset size (slice_index_or nodes k none))
+set_place k offset size nodes = set nodes k (node_at_place offset size (slice_index_or nodes k empty_root))

@@ -7,7 +7,7 @@ use mathlib.Core.List.{List, [], ◌∷◌, ◌++◌, tail}
 use Rattle.endian.specs.Bytes.{be24, be32, be24_bytes, be32_bytes}
 use Rattle.refusal.specs.declared.Refusal.TheVariants.{EntryPastTable, UnrecognizedKind, RootIsNotDirectory, MissingNullTerminator, LimitOrMemory, InvalidNextIndex, InvalidNameOffset, InvalidNameByte, UnsafeName}
 use Rattle.refusal.specs.Refusal.{refuse, first}
-use Rattle.tree.specs.Units.{TextUnit, single, pair, within, units}
+use Rattle.tree.specs.Units.{TextUnit, single, pair, is_within, units}
 use Rattle.std.specs.List.{list_all}
 
 -- a file with offset and size, or a directory with its next; its parent is where it is nested, see `parent_of`
@@ -20,40 +20,40 @@ name_of (file nm offset size) = nm
 name_of (directory nm next) = nm
 
 -- the root of no entries, where a list has none
-abbrev pub none : Node
-none = directory [] 0
+abbrev pub empty_root : Node
+empty_root = directory [] 0
 
 -- ---- names
 
-abbrev pub plain_byte : ℕ → Bool
-plain_byte b = within 0x20 0x7E b || within 0xA1 0xDF b
+abbrev pub is_plain_byte : ℕ → Bool
+is_plain_byte b = is_within 0x20 0x7E b || is_within 0xA1 0xDF b
 
-abbrev pub safe_byte : ℕ → Bool
-safe_byte b = not (b == 0x2F) && not (b == 0x5C) && not (b == 0x3A)
+abbrev pub is_safe_byte : ℕ → Bool
+is_safe_byte b = not (b == 0x2F) && not (b == 0x5C) && not (b == 0x3A)
 
-abbrev pub plain_unit : TextUnit → Bool
-plain_unit (single b) = plain_byte b
-plain_unit (pair a b) = true
+abbrev pub is_plain_unit : TextUnit → Bool
+is_plain_unit (single b) = is_plain_byte b
+is_plain_unit (pair a b) = true
 
-abbrev pub safe_unit : TextUnit → Bool
-safe_unit (single b) = safe_byte b
-safe_unit (pair a b) = true
+abbrev pub is_safe_unit : TextUnit → Bool
+is_safe_unit (single b) = is_safe_byte b
+is_safe_unit (pair a b) = true
 
 -- each unit a pair, or a byte 0x20 to 0x7E or 0xA1 to 0xDF
-unfoldable pub plain : List ℕ → Bool
-plain nm = list_all plain_unit (units nm)
+unfoldable pub is_plain : List ℕ → Bool
+is_plain nm = list_all is_plain_unit (units nm)
 
 -- `.` or `..`
-abbrev pub dots : List ℕ → Bool
-dots [] = false
-dots (a ∷ []) = a == 0x2E
-dots (a ∷ b ∷ []) = a == 0x2E && b == 0x2E
-dots (a ∷ b ∷ c ∷ xs) = false
+abbrev pub is_dots : List ℕ → Bool
+is_dots [] = false
+is_dots (a ∷ []) = a == 0x2E
+is_dots (a ∷ b ∷ []) = a == 0x2E && b == 0x2E
+is_dots (a ∷ b ∷ c ∷ xs) = false
 
 -- not empty, not `.` or `..`, without `/`, `\` and `:` as units
-unfoldable pub safe : List ℕ → Bool
-safe [] = false
-safe (x ∷ xs) = not (dots (x ∷ xs)) && list_all safe_unit (units (x ∷ xs))
+unfoldable pub is_safe : List ℕ → Bool
+is_safe [] = false
+is_safe (x ∷ xs) = not (is_dots (x ∷ xs)) && list_all is_safe_unit (units (x ∷ xs))
 
 -- ---- an entry's 12 bytes: kind (1), name offset (3), offset or parent (4), size or next (4)
 
@@ -74,14 +74,14 @@ unfoldable pub count : List ℕ → ℕ
 count tab = max 1 (size_or_next tab 0)
 
 -- a text: the bytes up to the first 0
-abbrev pub up_to0 : List ℕ → List ℕ
-up_to0 [] = []
-up_to0 (zero ∷ s) = []
-up_to0 (suc b ∷ s) = suc b ∷ up_to0 s
+abbrev pub first_text : List ℕ → List ℕ
+first_text [] = []
+first_text (zero ∷ s) = []
+first_text (suc b ∷ s) = suc b ∷ first_text s
 
 -- the name at offset o of the texts, which stand after c entries
 unfoldable pub name_at : List ℕ → ℕ → ℕ → List ℕ
-name_at tab c o = up_to0 (drop (12 * c + o) tab)
+name_at tab c o = first_text (drop (12 * c + o) tab)
 
 -- where the name of entry k stands in the table; 0 for the root, which has none
 abbrev pub name_place : List ℕ → ℕ → ℕ
@@ -116,8 +116,8 @@ entries_verdict tab k zero = Ok tt
 entries_verdict tab k (suc n) = first (entry_verdict tab k) (entries_verdict tab (suc k) n)
 
 -- the last text, if there are texts after c entries, has no zero byte at its end
-unfoldable pub unended : List ℕ → ℕ → Bool
-unended tab c = nat_lt (12 * c) (length tab) && not ((slice_index tab (length tab - 1)) == 0)
+unfoldable pub is_unended : List ℕ → ℕ → Bool
+is_unended tab c = nat_lt (12 * c) (length tab) && not ((slice_index tab (length tab - 1)) == 0)
 
 -- the walk keeps the "next" of each directory that is open, the innermost first; this is the innermost one's
 abbrev pub top : List ℕ → ℕ
@@ -125,19 +125,19 @@ top [] = 0
 top (n ∷ dirs) = n
 
 -- the directories still open at entry k
-unfoldable pub shut : ℕ → List ℕ → List ℕ
-shut k [] = []
-shut k (n ∷ dirs) = if nat_le n k then shut k dirs else n ∷ dirs
+unfoldable pub dirs_open_at : ℕ → List ℕ → List ℕ
+dirs_open_at k [] = []
+dirs_open_at k (n ∷ dirs) = if nat_le n k then dirs_open_at k dirs else n ∷ dirs
 
-abbrev pub enter : List ℕ → Node → List ℕ
-enter dirs (file nm offset size) = dirs
-enter dirs (directory nm next) = next ∷ dirs
+abbrev pub dirs_with : List ℕ → Node → List ℕ
+dirs_with dirs (file nm offset size) = dirs
+dirs_with dirs (directory nm next) = next ∷ dirs
 
 unfoldable pub name_verdict : List ℕ → ℕ → ℕ → List ℕ → Verdict
 name_verdict tab c k nm =
     refuse (nat_le (length tab - 12 * c) (name_offset tab k)) InvalidNameOffset
-    (refuse (not (plain nm)) InvalidNameByte
-    (refuse (not (safe nm)) UnsafeName (Ok tt)))
+    (refuse (not (is_plain nm)) InvalidNameByte
+    (refuse (not (is_safe nm)) UnsafeName (Ok tt)))
 
 -- the next, and then the depth, which is the number of directories open
 unfoldable pub next_verdict : ℕ → List ℕ → ℕ → Node → Verdict
@@ -153,8 +153,8 @@ unfoldable pub walk : List ℕ → ℕ → List ℕ → ℕ → List Node → Ve
 walk tab c dirs k [] = Ok tt
 walk tab c dirs k (x ∷ xs) =
     first (name_verdict tab c k (name_of x))
-    (first (next_verdict c (shut k dirs) k x)
-    (walk tab c (enter (shut k dirs) x) (suc k) xs))
+    (first (next_verdict c (dirs_open_at k dirs) k x)
+    (walk tab c (dirs_with (dirs_open_at k dirs) x) (suc k) xs))
 
 -- a table, with so many working words lent
 unfoldable pub check : List ℕ → ℕ → Verdict
@@ -164,7 +164,7 @@ check tab words =
     (refuse (kind tab 0 == 0) RootIsNotDirectory
     (refuse (nat_lt 16384 (count tab)) LimitOrMemory
     (first (entries_verdict tab 1 (count tab - 1))
-    (refuse (unended tab (count tab)) MissingNullTerminator
+    (refuse (is_unended tab (count tab)) MissingNullTerminator
     (refuse (nat_lt 1048576 (length tab - 12 * count tab)) LimitOrMemory
     (refuse (nat_lt words (4 * (count tab + 2))) LimitOrMemory
     (refuse (nat_le (size_or_next tab 0) 0) InvalidNextIndex
@@ -172,14 +172,14 @@ check tab words =
 
 -- ---- nesting
 
-abbrev pub encloses : Node → ℕ → Bool
-encloses (file nm offset size) k = false
-encloses (directory nm next) k = nat_lt k next
+abbrev pub is_enclosing : Node → ℕ → Bool
+is_enclosing (file nm offset size) k = false
+is_enclosing (directory nm next) k = nat_lt k next
 
 -- the last directory below i whose entries k is among, 0 where there is none
 unfoldable pub parent_below : List Node → ℕ → ℕ → ℕ
 parent_below nodes k zero = 0
-parent_below nodes k (suc i) = if encloses (slice_index_or nodes i none) k then i else parent_below nodes k i
+parent_below nodes k (suc i) = if is_enclosing (slice_index_or nodes i empty_root) k then i else parent_below nodes k i
 
 -- the directory that entry k is nested in; 0 for the root
 unfoldable pub parent_of : List Node → ℕ → ℕ
@@ -209,17 +209,17 @@ encode (root ∷ xs) = node_bytes 0 0 root ++ (entries_bytes (root ∷ xs) 1 0 x
 -- ---- the limits of a tree that is written
 
 -- an entry below those directories is no directory deeper than 64
-abbrev pub shallow_entry : List ℕ → Node → Bool
-shallow_entry dirs (file nm offset size) = true
-shallow_entry dirs (directory nm next) = nat_le (length dirs) 64
+abbrev pub is_shallow_entry : List ℕ → Node → Bool
+is_shallow_entry dirs (file nm offset size) = true
+is_shallow_entry dirs (directory nm next) = nat_le (length dirs) 64
 
 -- no directory among entries k and on is deeper than 64
-unfoldable pub shallow_from : List ℕ → ℕ → List Node → Bool
-shallow_from dirs k [] = true
-shallow_from dirs k (x ∷ xs) = shallow_entry (shut k dirs) x && shallow_from (enter (shut k dirs) x) (suc k) xs
+unfoldable pub is_shallow_from : List ℕ → ℕ → List Node → Bool
+is_shallow_from dirs k [] = true
+is_shallow_from dirs k (x ∷ xs) = is_shallow_entry (dirs_open_at k dirs) x && is_shallow_from (dirs_with (dirs_open_at k dirs) x) (suc k) xs
 
-unfoldable pub shallow : List Node → Bool
-shallow nodes = shallow_from (length nodes ∷ []) 1 (tail nodes)
+unfoldable pub is_shallow : List Node → Bool
+is_shallow nodes = is_shallow_from (length nodes ∷ []) 1 (tail nodes)
 
 -- of a tree to be written, as at opening; the texts are the written ones
 unfoldable pub limits : List Node → ℕ → Verdict
@@ -227,4 +227,4 @@ limits nodes words =
     refuse (nat_lt 16384 (length nodes)) LimitOrMemory
     (refuse (nat_lt 1048576 (length (texts_of (tail nodes)))) LimitOrMemory
     (refuse (nat_lt words (4 * (length nodes + 2))) LimitOrMemory
-    (refuse (not (shallow nodes)) LimitOrMemory (Ok tt))))
+    (refuse (not (is_shallow nodes)) LimitOrMemory (Ok tt))))

@@ -1,14 +1,14 @@
 -- The units of a text, by which names are judged and paths are cut: pairs of a lead and a trail byte, and single bytes.
 use Rattle.std.specs.Prelude.{ℕ, Bool, ◌&&◌, ◌||◌, List, [], ◌∷◌, if◌then◌else◌, nat_le}
 
-abbrev pub within : ℕ → ℕ → ℕ → Bool
-within low high b = nat_le low b && nat_le b high
+abbrev pub is_within : ℕ → ℕ → ℕ → Bool
+is_within low high b = nat_le low b && nat_le b high
 
-abbrev pub lead_byte : ℕ → Bool
-lead_byte b = within 0x81 0x9F b || within 0xE0 0xFC b
+abbrev pub is_lead_byte : ℕ → Bool
+is_lead_byte b = is_within 0x81 0x9F b || is_within 0xE0 0xFC b
 
-abbrev pub trail_byte : ℕ → Bool
-trail_byte b = within 0x40 0x7E b || within 0x80 0xFC b
+abbrev pub is_trail_byte : ℕ → Bool
+is_trail_byte b = is_within 0x40 0x7E b || is_within 0x80 0xFC b
 
 pub data TextUnit : Type 0 where
   single : ℕ → TextUnit
@@ -22,4 +22,4 @@ unit_bytes (pair a b) = a ∷ b ∷ []
 unfoldable pub units : List ℕ → List TextUnit
 units [] = []
 units (a ∷ []) = single a ∷ []
-units (a ∷ b ∷ s) = if lead_byte a && trail_byte b then pair a b ∷ units s else single a ∷ units (b ∷ s)
+units (a ∷ b ∷ s) = if is_lead_byte a && is_trail_byte b then pair a b ∷ units s else single a ∷ units (b ∷ s)

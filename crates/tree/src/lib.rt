@@ -3,6 +3,18 @@
 
 use refusal::Refusal;
 
+/// A table with more entries than this is refused, with 9.
+pub const ENTRIES_LIMIT: usize = 16384;
+
+/// A table with more bytes of texts than this is refused, with 9.
+pub const TEXTS_LIMIT: usize = 1048576;
+
+/// A directory that is nested deeper than this is refused, with 9; the root is 0 deep.
+pub const DEPTH_LIMIT: usize = 64;
+
+/// A path of more bytes than this is refused, with 9.
+pub const PATH_LIMIT: usize = 1024;
+
 /// A file: where its bytes start on the disc, and how many they are.
 #[derive(Clone, Copy, PartialEq, Eq, Debug)]
 pub struct FileEntry {

@@ -15,8 +15,8 @@ abbrev pub new_window : ℕ → ℕ → Window
 new_window start len = record { start = start; len = len; position = 0 }
 
 -- the same part, at the position p
-abbrev pub move_to : Window → ℕ → Window
-move_to w p = record { start = w.start; len = w.len; position = p }
+abbrev pub moved_window : Window → ℕ → Window
+moved_window w p = record { start = w.start; len = w.len; position = p }
 
 -- a distance as the number below 2^64 that stands for it modulo 2^64; `negsuc n` is -(n + 1)
 abbrev pub distance : ℤ → ℕ
@@ -28,7 +28,7 @@ position_after p d = (p + distance d) % 2 ^ 64
 
 -- a seek to the position p, refused where start + position passes 2^64 - 1
 abbrev pub window_at : Window → ℕ → Result Window Refusal
-window_at w p = if nat_lt (2 ^ 64 - 1) (w.start + p) then Err InvalidSeek else Ok (move_to w p)
+window_at w p = if nat_lt (2 ^ 64 - 1) (w.start + p) then Err InvalidSeek else Ok (moved_window w p)
 
 -- the answer of a seek: from the current position by 0 it always succeeds
 abbrev pub seek_of : Window → SeekFrom → Result Window Refusal
@@ -44,7 +44,7 @@ count_of w there asked = min asked (min (w.len - w.position) (there - (w.start +
 
 -- the same part, n bytes further on
 abbrev pub window_after_read : Window → ℕ → Window
-window_after_read w n = move_to w (w.position + n)
+window_after_read w n = moved_window w (w.position + n)
 
 -- the answer of a read: the count, and the window moved by it
 abbrev pub read_of : Window → ℕ → ℕ → BytesRead

@@ -10,7 +10,7 @@ use Rattle.space.specs.Totals.{totals_in}
 use Rattle.window.specs.declared.Window.{Window}
 use Rattle.opened.specs.declared.faults.Owner.TheVariants as owner
 use Rattle.opened.specs.declared.faults.About.TheVariants as about
-use Rattle.counter.specs.Replies.{reply, accepts, replied, fault_words, disc_words, disc_totals_words, region_words, one, window_in, window_words, totals_words, unit_words, dol_words, program_reply, found_reply, dol_reply, dol_window_reply, done, numbered}
+use Rattle.counter.specs.Replies.{reply, accepted_reply, reply_of, fault_words, disc_words, disc_totals_words, region_words, one_word, window_in, window_words, totals_words, unit_words, dol_words, program_reply, found_reply, dol_reply, dol_window_reply, done_number, entry_reply}
 
 -- slots as they were before the call
 abbrev old : List ℕ
@@ -24,8 +24,8 @@ rising a (suc n) = a ∷ rising (suc a) n
 -- "answer[5]: FST offset, FST size, disc end, entries, used total."; "answer[2]: disc end, used total."; "answer[2]: DOL offset, and the larger of
 -- the file size and 0xE4; both 0 where the DOL offset is 0."
 disc-slots :
-    (replied disc_words old (Ok (record { fst_offset = 1; fst_size = 2; disc_end = 3; entries = 4; used = 5 })) ≡ reply 0 (1 ∷ 2 ∷ 3 ∷ 4 ∷ 5 ∷ [])) ×
-    (replied disc_totals_words old (Ok (record { disc_end = 1; used = 2 })) ≡ reply 0 (1 ∷ 2 ∷ [])) ×
+    (reply_of disc_words old (Ok (record { fst_offset = 1; fst_size = 2; disc_end = 3; entries = 4; used = 5 })) ≡ reply 0 (1 ∷ 2 ∷ 3 ∷ 4 ∷ 5 ∷ [])) ×
+    (reply_of disc_totals_words old (Ok (record { disc_end = 1; used = 2 })) ≡ reply 0 (1 ∷ 2 ∷ [])) ×
     (program_reply old (Ok (Some (record { offset = 1; size = 2 }))) ≡ reply 0 (1 ∷ 2 ∷ [])) ×
     (program_reply old (Ok None) ≡ reply 0 (0 ∷ 0 ∷ []))
 unfolding program_reply
@@ -41,15 +41,15 @@ entry-slots = (refl, refl)
 
 -- "answer[1]: how many regions."; the size of a region; "answer[2]: offset, size."; the length of a text; "the new entry's number in the new table"
 number-slots :
-    (replied one old (Ok 1) ≡ reply 0 (1 ∷ [])) ×
-    (replied region_words old (Ok (record { offset = 1; size = 2 })) ≡ reply 0 (1 ∷ 2 ∷ [])) ×
-    (numbered old (Ok tt) 1 ≡ reply 0 (1 ∷ []))
+    (reply_of one_word old (Ok 1) ≡ reply 0 (1 ∷ [])) ×
+    (reply_of region_words old (Ok (record { offset = 1; size = 2 })) ≡ reply 0 (1 ∷ 2 ∷ [])) ×
+    (entry_reply old (Ok tt) 1 ≡ reply 0 (1 ∷ []))
 number-slots = (refl, refl, refl)
 
 -- "unit[2]: its length in bytes .., and 0, 12 or 13"
 unit-slots :
-    (accepts (unit_words (record { len = 1; verdict = Err InvalidNameByte })) ≡ reply 0 (1 ∷ 12 ∷ [])) ×
-    (accepts (unit_words (record { len = 2; verdict = Ok tt })) ≡ reply 0 (2 ∷ 0 ∷ []))
+    (accepted_reply (unit_words (record { len = 1; verdict = Err InvalidNameByte })) ≡ reply 0 (1 ∷ 12 ∷ [])) ×
+    (accepted_reply (unit_words (record { len = 2; verdict = Ok tt })) ≡ reply 0 (2 ∷ 0 ∷ []))
 unit-slots = (refl, refl)
 
 -- "answer[4]: the number that opening refuses the image with, 0 if it opens; and what of the image that is about": nothing more, an entry, two used
@@ -70,7 +70,7 @@ a_window = record { start = 1; len = 2; position = 3 }
 
 window-slots :
     (window_in (1 ∷ 2 ∷ 3 ∷ []) ≡ a_window) ×
-    (replied window_words old (Ok a_window) ≡ reply 0 (1 ∷ 2 ∷ 3 ∷ []))
+    (reply_of window_words old (Ok a_window) ≡ reply 0 (1 ∷ 2 ∷ 3 ∷ []))
 window-slots = (refl, refl)
 
 -- the record: "three slots, used bytes, the size of the largest free region (0 if there is none), and how many edits were accepted"
@@ -78,7 +78,7 @@ window-slots = (refl, refl)
 abbrev a_record : Totals
 a_record = record { used = 1; largest = 2; edits = 3 }
 
-record-slots : (totals_in (1 ∷ 2 ∷ 3 ∷ []) ≡ a_record) × (replied totals_words old (Ok a_record) ≡ reply 0 (1 ∷ 2 ∷ 3 ∷ []))
+record-slots : (totals_in (1 ∷ 2 ∷ 3 ∷ []) ≡ a_record) × (reply_of totals_words old (Ok a_record) ≡ reply 0 (1 ∷ 2 ∷ 3 ∷ []))
 record-slots = (refl, refl)
 
 -- "header[57]: 7 text and 11 data offsets, 7 and 11 addresses, 7 and 11 sizes, BSS address, BSS size, entry point. window[3]: .."
@@ -104,23 +104,23 @@ dol-slots = (refl, refl)
 
 -- "with a number other than 0 they stay as they were"
 refused-slots :
-    (replied disc_words old (Err LimitOrMemory) ≡ reply 9 old) ×
-    (replied disc_totals_words old (Err LimitOrMemory) ≡ reply 9 old) ×
+    (reply_of disc_words old (Err LimitOrMemory) ≡ reply 9 old) ×
+    (reply_of disc_totals_words old (Err LimitOrMemory) ≡ reply 9 old) ×
     (program_reply old (Err InvalidDol) ≡ reply 24 old) ×
     (found_reply old (found.Refused NotFound) ≡ reply 18 old) ×
-    (replied one old (Err LimitOrMemory) ≡ reply 9 old) ×
-    (replied one old (Err ExpectedFile) ≡ reply 16 old) ×
-    (replied region_words old (Err NotEnoughSpace) ≡ reply 21 old) ×
-    (replied one old (Err NoSuchEntry) ≡ reply 15 old) ×
-    (numbered old (Err TotalsOutOfRange) 1 ≡ reply 25 old) ×
-    (replied window_words old (Err ExpectedFile) ≡ reply 16 old) ×
-    (replied window_words old (Err InvalidSeek) ≡ reply 23 old) ×
-    (replied totals_words old (Err LimitOrMemory) ≡ reply 9 old) ×
+    (reply_of one_word old (Err LimitOrMemory) ≡ reply 9 old) ×
+    (reply_of one_word old (Err ExpectedFile) ≡ reply 16 old) ×
+    (reply_of region_words old (Err NotEnoughSpace) ≡ reply 21 old) ×
+    (reply_of one_word old (Err NoSuchEntry) ≡ reply 15 old) ×
+    (entry_reply old (Err TotalsOutOfRange) 1 ≡ reply 25 old) ×
+    (reply_of window_words old (Err ExpectedFile) ≡ reply 16 old) ×
+    (reply_of window_words old (Err InvalidSeek) ≡ reply 23 old) ×
+    (reply_of totals_words old (Err LimitOrMemory) ≡ reply 9 old) ×
     (dol_reply old (Err InvalidDol) ≡ reply 24 old) ×
     (dol_window_reply old (Err InvalidDol) ≡ reply 24 old)
 unfolding program_reply found_reply
 refused-slots = (refl, refl, refl, refl, refl, refl, refl, refl, refl, refl, refl, refl, refl, refl)
 
 -- "Every function returns 0 where it is accepted, and else the number of the first test that failed"
-done-number : (done (Ok tt) 1 ≡ 0) × (done (Err NotEnoughSpace) 1 ≡ 21)
+done-number : (done_number (Ok tt) 1 ≡ 0) × (done_number (Err NotEnoughSpace) 1 ≡ 21)
 done-number = (refl, refl)

@@ -1,7 +1,7 @@
 -- What is decided on, or why it is refused, entered in the totals record. Assumes nothing: these are definitions.
-use Rattle.std.specs.Prelude.{Result, Ok, Err, ℕ, ◌+◌, ◌-◌, ◌≤◌, ◌≡◌, List, length, if◌then◌else◌}
+use Rattle.std.specs.Prelude.{Result, Ok, Err, ℕ, ◌+◌, ◌-◌, ◌≤◌, ◌≡◌, List, length, if◌then◌else◌, is_err}
 use Rattle.refusal.specs.declared.Refusal.{Refusal}
-use Rattle.refusal.specs.Refusal.{Verdict, is_refused}
+use Rattle.refusal.specs.Refusal.{Verdict}
 use Rattle.header.specs.Verdicts.{fst_offset, fst_size, disc_end}
 use Rattle.space.specs.declared.region.DiscRegion.{DiscRegion}
 use Rattle.space.specs.Used.{no_region}
@@ -10,10 +10,10 @@ use Rattle.opened.specs.Inner.Prepared.{IsOpen}
 use Rattle.opened.specs.Opening.{Disc}
 use Rattle.opened.specs.Inner.Disc.{Opened, Means}
 use Rattle.space.specs.declared.totals.Totals.{Totals}
-use Rattle.space.specs.Totals.{totals_verdict, totals_moved}
+use Rattle.space.specs.Totals.{totals_verdict, moved_totals}
 use Rattle.space.specs.Inner.Scan.{longest_from, gone_of, Moved, moved_as}
-use Rattle.edits.specs.Change.{Plan}
-use Rattle.edits.specs.Edits.{plan_image, counted_verdict, totals_to}
+use Rattle.edit_rules.specs.Change.{Plan}
+use Rattle.edit_rules.specs.Edits.{plan_image, counted_verdict, totals_to}
 use Rattle.edit.specs.declared.decision.Decision.{Decision}
 use Rattle.edit.specs.declared.decision.Decision.TheVariants as decision
 use Rattle.edit.specs.Inner.Decision.{DecidedAs}
@@ -38,20 +38,20 @@ pub record Accounted : Type 0 where
   pub decision : Result Decision Refusal
   pub totals : Totals
 
-abbrev pub accounted : Result Decision Refusal → Totals → Accounted
-accounted d t = record { decision = d; totals = t }
+abbrev pub account_with : Result Decision Refusal → Totals → Accounted
+account_with d t = record { decision = d; totals = t }
 
 -- refused if the record cannot move on
-abbrev pub unless : Verdict → Decision → Result Decision Refusal
-unless (Ok _) d = Ok d
-unless (Err c) d = Err c
+abbrev pub decision_unless : Verdict → Decision → Result Decision Refusal
+decision_unless (Ok _) d = Ok d
+decision_unless (Err c) d = Err c
 
 abbrev pub settled_as : Decision → Moved → Accounted
-settled_as d m = accounted (unless m.verdict d) m.totals
+settled_as d m = account_with (decision_unless m.verdict d) m.totals
 
 -- used bytes move from `before` to `after`, in any two numbers with that difference
 abbrev pub moved_by : Totals → ℕ → ℕ → ℕ → Moved
-moved_by t before after largest = moved_as (totals_verdict t before after) t (totals_moved t before after largest)
+moved_by t before after largest = moved_as (totals_verdict t before after) t (moved_totals t before after largest)
 
 -- the new table has `size` bytes, and the edited file goes from `old` to `new`; xs are the used regions behind the table, in order
 abbrev pub entered_as : List ℕ → List DiscRegion → Totals → ℕ → DiscRegion → DiscRegion → Moved
@@ -65,12 +65,12 @@ entered_for image xs (decision.Clip n at) t = entered_as image xs t (fst_size im
 entered_for image xs (decision.Write n size w) t = entered_as image xs t size w.old w.place
 
 abbrev pub account_of : List ℕ → List DiscRegion → Result Decision Refusal → Totals → Accounted
-account_of image xs (Err c) t = accounted (Err c) t
+account_of image xs (Err c) t = account_with (Err c) t
 account_of image xs (Ok d) t = settled_as d (entered_for image xs d t)
 
 -- the record afterwards
 abbrev pub counted_totals : Plan → Totals → List ℕ → ℕ → ℕ → Totals
-counted_totals p t image words room = if is_refused (counted_verdict p t image words room) then t else totals_to t image (plan_image p image)
+counted_totals p t image words room = if is_err (counted_verdict p t image words room) then t else totals_to t image (plan_image p image)
 
 -- a, with these working bytes and this clip, is what the plan comes to by all its tests, 25 too, where the record t went in
 pub record IsAccountedFor (p : Plan) (image : List ℕ) (words room : ℕ) (bytes clip : List ℕ) (t : Totals) (a : Accounted) : Type 0 where

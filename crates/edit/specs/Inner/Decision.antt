@@ -1,7 +1,7 @@
 -- What an edit decides on before it writes, or why it is refused, and what that does to an image. The new table stands in the working bytes by then.
 -- Assumes nothing: these are definitions.
-use Rattle.std.specs.Prelude.{Result, Ok, Err, ℕ, ◌+◌, ◌<◌, ◌≤◌, ◌^◌, ◌≡◌, List, [], ◌∷◌, length, replicate, if◌then◌else◌}
-use Rattle.refusal.specs.Refusal.{Verdict, is_refused}
+use Rattle.std.specs.Prelude.{Result, Ok, Err, ℕ, ◌+◌, ◌<◌, ◌≤◌, ◌^◌, ◌≡◌, List, [], ◌∷◌, length, replicate, if◌then◌else◌, is_err}
+use Rattle.refusal.specs.Refusal.{Verdict}
 use Rattle.refusal.specs.declared.Refusal.{Refusal}
 use Rattle.endian.specs.Bytes.{put, span}
 use Rattle.header.specs.Verdicts.{fst_offset, fst_size}
@@ -11,8 +11,8 @@ use Rattle.space.specs.Used.{no_region}
 use Rattle.edit.specs.declared.decision.Writing.{Writing}
 use Rattle.edit.specs.declared.decision.Decision.{Decision}
 use Rattle.edit.specs.declared.decision.Decision.TheVariants as decision
-use Rattle.edits.specs.Change.{Change, with_table, table_verdict, Plan, refused, nothing, change, filled}
-use Rattle.edits.specs.Edits.{plan_verdict, plan_image}
+use Rattle.edit_rules.specs.Change.{Change, image_with_table, table_verdict, Plan, refused, nothing, change, filled}
+use Rattle.edit_rules.specs.Edits.{plan_verdict, plan_image}
 use Rattle.opened.specs.Opening.{Disc}
 use Rattle.opened.specs.Inner.Disc.{Opened, Means}
 
@@ -26,23 +26,23 @@ abbrev pub nothing_besides : Writing
 nothing_besides = record { old = no_region; place = no_region; kept = 0; lost = record { offset = 0; size = 0 } }
 
 -- a change with a place, for the tests of its table
-abbrev pub placing : List Node → DiscRegion → Change
-placing nodes place = record { nodes = nodes; old = no_region; place = place; kept = 0; lost = no_region }
+abbrev pub placing_change : List Node → DiscRegion → Change
+placing_change nodes place = record { nodes = nodes; old = no_region; place = place; kept = 0; lost = no_region }
 
 -- the image with the change written, where the table's bytes are these
 unfoldable pub written_with : Writing → List ℕ → List ℕ → List ℕ
 written_with w table image =
-    put (with_table (fst_offset image) (fst_size image) table (put image w.place.offset (span image w.old.offset w.kept))) w.lost.offset (replicate w.lost.size 0)
+    put (image_with_table (fst_offset image) (fst_size image) table (put image w.place.offset (span image w.old.offset w.kept))) w.lost.offset (replicate w.lost.size 0)
 
 -- ---- what is found behind tests that passed, or the cause of the first that did not
 
-abbrev pub behind_tests : {A : Type 0} → Verdict → A → Result A Refusal
-behind_tests (Ok _) x = Ok x
-behind_tests (Err c) x = Err c
+abbrev pub value_behind : {A : Type 0} → Verdict → A → Result A Refusal
+value_behind (Ok _) x = Ok x
+value_behind (Err c) x = Err c
 
 -- the size of the table of the tree as it is, once it passed a new table's tests with that place
 abbrev pub judged_size : Opened → ℕ → DiscRegion → Result ℕ Refusal
-judged_size d bytes place = behind_tests (table_verdict (placing d.disc.nodes place) d.disc d.words bytes) (length (encode d.disc.nodes))
+judged_size d bytes place = value_behind (table_verdict (placing_change d.disc.nodes place) d.disc d.words bytes) (length (encode d.disc.nodes))
 
 -- ---- what is written lies in the image; nothing is asked of a place where no byte is written
 
@@ -75,9 +75,9 @@ abbrev pub Into : ℕ → ℕ → ℕ → Type 0
 Into long at n = 0 < n → at + n ≤ long
 
 -- the image with the clip at its place; most edits have none
-abbrev pub clipped : List ℕ → ℕ → List ℕ → List ℕ
-clipped image at [] = image
-clipped image at (b ∷ clip) = put image at (b ∷ clip)
+abbrev pub clipped_image : List ℕ → ℕ → List ℕ → List ℕ
+clipped_image image at [] = image
+clipped_image image at (b ∷ clip) = put image at (b ∷ clip)
 
 -- ---- a decision carried out, or a refusal handed back
 
@@ -85,21 +85,21 @@ abbrev pub CanCarry : List ℕ → ℕ → List ℕ → Result Decision Refusal 
 CanCarry image room clip (Err c) = Unit {0}
 CanCarry image room clip (Ok decision.Nothing) = Unit {0}
 CanCarry image room clip (Ok (decision.Clip n at)) = Into (length image) at (length clip)
-CanCarry image room clip (Ok (decision.Write n size w)) = Into (length image) w.place.offset (length clip) × Fits (clipped image w.place.offset clip) room size w
+CanCarry image room clip (Ok (decision.Write n size w)) = Into (length image) w.place.offset (length clip) × Fits (clipped_image image w.place.offset clip) room size w
 
 abbrev pub carried_verdict : Result Decision Refusal → Verdict
 carried_verdict (Err c) = Err c
 carried_verdict (Ok d) = Ok tt
 
 -- the number of the entry
-abbrev pub number_of : Decision → ℕ
-number_of decision.Nothing = 0
-number_of (decision.Clip n at) = n
-number_of (decision.Write n size w) = n
+abbrev pub decision_number : Decision → ℕ
+decision_number decision.Nothing = 0
+decision_number (decision.Clip n at) = n
+decision_number (decision.Write n size w) = n
 
 abbrev pub carried_answer : Result Decision Refusal → Result ℕ Refusal
 carried_answer (Err c) = Err c
-carried_answer (Ok d) = Ok (number_of d)
+carried_answer (Ok d) = Ok (decision_number d)
 
 -- whether an edit that gives a number was accepted
 abbrev pub verdict_in : Result ℕ Refusal → Verdict
@@ -110,16 +110,16 @@ verdict_in (Err c) = Err c
 abbrev pub carried_image : Result Decision Refusal → List ℕ → List ℕ → List ℕ → List ℕ
 carried_image (Err c) bytes clip image = image
 carried_image (Ok decision.Nothing) bytes clip image = image
-carried_image (Ok (decision.Clip n at)) bytes clip image = clipped image at clip
-carried_image (Ok (decision.Write n size w)) bytes clip image = written_with w (span bytes 0 size) (clipped image w.place.offset clip)
+carried_image (Ok (decision.Clip n at)) bytes clip image = clipped_image image at clip
+carried_image (Ok (decision.Write n size w)) bytes clip image = written_with w (span bytes 0 size) (clipped_image image w.place.offset clip)
 
-pub record Carried (n size : ℕ) (w : Writing) (bytes : List ℕ) (k : ℕ) (c : Change) : Type 0 where
+pub record IsCarried (n size : ℕ) (w : Writing) (bytes : List ℕ) (k : ℕ) (c : Change) : Type 0 where
   pub number : n ≡ k
   pub table : span bytes 0 size ≡ encode c.nodes
   pub change : c ≡ change_with c.nodes w
 
 -- the same of a file that is filled, but for what a resize would copy
-pub record Uncopied (n size : ℕ) (w : Writing) (bytes : List ℕ) (k : ℕ) (c : Change) : Type 0 where
+pub record IsUncopied (n size : ℕ) (w : Writing) (bytes : List ℕ) (k : ℕ) (c : Change) : Type 0 where
   pub number : n ≡ k
   pub table : span bytes 0 size ≡ encode c.nodes
   pub old : c.old ≡ w.old
@@ -139,10 +139,10 @@ Carries (Ok (decision.Clip n at)) bytes (filled k clip (filled j more p)) = ⊥
 Carries (Ok (decision.Clip n at)) bytes nothing = ⊥
 Carries (Ok (decision.Clip n at)) bytes (refused v) = ⊥
 Carries (Ok (decision.Clip n at)) bytes (change k c) = ⊥
-Carries (Ok (decision.Write n size w)) bytes (change k c) = Carried n size w bytes k c
+Carries (Ok (decision.Write n size w)) bytes (change k c) = IsCarried n size w bytes k c
 Carries (Ok (decision.Write n size w)) bytes (refused v) = ⊥
 Carries (Ok (decision.Write n size w)) bytes nothing = ⊥
-Carries (Ok (decision.Write n size w)) bytes (filled k clip (change j c)) = Uncopied n size w bytes k c
+Carries (Ok (decision.Write n size w)) bytes (filled k clip (change j c)) = IsUncopied n size w bytes k c
 Carries (Ok (decision.Write n size w)) bytes (filled k clip nothing) = ⊥
 Carries (Ok (decision.Write n size w)) bytes (filled k clip (refused v)) = ⊥
 Carries (Ok (decision.Write n size w)) bytes (filled k clip (filled j more p)) = ⊥
@@ -152,16 +152,16 @@ pub record DecidedAs (v : Verdict) (p : Plan) (image : List ℕ) (room : ℕ) (b
   pub fits : CanCarry image room clip d
   pub carries : Carries d bytes p
   pub answer : carried_verdict d ≡ v
-  pub after : carried_image d bytes clip image ≡ (if is_refused v then image else plan_image p image)
+  pub after : carried_image d bytes clip image ≡ (if is_err v then image else plan_image p image)
 
 -- by all tests but 25 on a disc, with no clip
-abbrev pub Decided : Plan → List ℕ → Disc → ℕ → ℕ → List ℕ → Result Decision Refusal → Type 0
-Decided p image x words room bytes d = DecidedAs (plan_verdict p x words room) p image room bytes [] d
+abbrev pub IsDecided : Plan → List ℕ → Disc → ℕ → ℕ → List ℕ → Result Decision Refusal → Type 0
+IsDecided p image x words room bytes d = DecidedAs (plan_verdict p x words room) p image room bytes [] d
 
 -- ---- a decision on an open disc: the disc alone says what it is, and it is what the plan comes to on each image that means the disc
 
 abbrev pub Decides : Plan → Opened → ℕ → List ℕ → Result Decision Refusal → Type 0
-Decides p d room bytes r = (image : List ℕ) → Means image d → Decided p image d.disc d.words room bytes r
+Decides p d room bytes r = (image : List ℕ) → Means image d → IsDecided p image d.disc d.words room bytes r
 
 -- with a clip
 abbrev pub DecidesWith : List ℕ → Plan → Opened → ℕ → List ℕ → Result Decision Refusal → Type 0

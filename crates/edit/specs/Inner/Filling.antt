@@ -8,18 +8,18 @@ use Rattle.edit.specs.Inner.Decision.{Into}
 use Rattle.edit.specs.declared.file.File.{File}
 
 -- nothing is copied
-abbrev pub uncopied : Writing → Writing
-uncopied w = record { old = w.old; place = w.place; kept = 0; lost = w.lost }
+abbrev pub uncopied_writing : Writing → Writing
+uncopied_writing w = record { old = w.old; place = w.place; kept = 0; lost = w.lost }
 
 -- a resize's decision with the clip; where nothing is to be resized it goes where the file lies
 abbrev pub with_clip : Decision → File → Decision
 with_clip decision.Nothing f = decision.Clip f.number f.place.offset
 with_clip (decision.Clip n x) f = decision.Clip f.number f.place.offset
-with_clip (decision.Write n size w) f = decision.Write f.number size (uncopied w)
+with_clip (decision.Write n size w) f = decision.Write f.number size (uncopied_writing w)
 
 -- a clip of n bytes may be written first: its place lies behind both tables and apart from what is zeroed, and it covers what would be copied;
 -- nothing is asked where it has no byte
-pub record Clear (image : List ℕ) (size : ℕ) (w : Writing) (n : ℕ) : Type 0 where
+pub record IsClear (image : List ℕ) (size : ℕ) (w : Writing) (n : ℕ) : Type 0 where
   pub into : Into (length image) w.place.offset n
   pub old-table : 0 < n → table_end image ≤ w.place.offset
   pub new-table : 0 < n → fst_offset image + size ≤ w.place.offset

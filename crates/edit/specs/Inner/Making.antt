@@ -4,12 +4,12 @@ use Rattle.refusal.specs.declared.Refusal.{Refusal}
 use Rattle.refusal.specs.declared.Refusal.TheVariants.{LimitOrMemory}
 use Rattle.tree.specs.Table.{Node, parent_of, encode, limits}
 use Rattle.tree.specs.Inner.WellFormed.{IsGoodName}
-use Rattle.tree.specs.Lookup.{child_of, stays, goes_back}
+use Rattle.tree.specs.Lookup.{child_of, is_staying, is_going_back}
 use Rattle.tree.specs.Insert.{insert_at, empty_directory}
-use Rattle.edits.specs.Edits.{new_number, Made, stopped, made, if_found}
+use Rattle.edit_rules.specs.Edits.{new_number, Made, stopped, made, if_found}
 use Rattle.table_writing.specs.declared.growing.Growing.{Growing}
 use Rattle.table_writing.specs.Inner.Growth.{IsDirectory}
-use Rattle.table_writing.specs.Inner.Growing.{tree_of}
+use Rattle.table_writing.specs.Inner.Growing.{growing_tree}
 
 -- the tree that a walk made, and the entry where it ended
 abbrev pub made_tree : Made → List Node
@@ -31,8 +31,8 @@ into_of nodes k nm = if_found (child_of nodes k nm) (λ j. made nodes j false) (
 -- one component, from directory k
 unfoldable pub turn_of : List Node → ℕ → List ℕ → Made
 turn_of nodes k nm =
-    if stays nm then made nodes k false
-    else if goes_back nm then made nodes (parent_of nodes k) false
+    if is_staying nm then made nodes k false
+    else if is_going_back nm then made nodes (parent_of nodes k) false
     else into_of nodes k nm
 
 -- a name that directory k lacks may be given
@@ -42,9 +42,9 @@ pub record MayName (nodes : List Node) (k : ℕ) (nm : List ℕ) : Type 0 where
 -- the walk stands on a directory, and where the component is a name it may be given
 pub record CanTurn (nodes : List Node) (k : ℕ) (nm : List ℕ) : Type 0 where
   pub directory : IsDirectory nodes k
-  pub named : stays nm ≡ false → goes_back nm ≡ false → MayName nodes k nm
+  pub named : is_staying nm ≡ false → is_going_back nm ≡ false → MayName nodes k nm
 
 -- the tree of a walk stands there, or there is no room for it (9)
 abbrev pub Reaches : Made → ℕ → Growing → Result ℕ Refusal → Type 0
-Reaches m room table (Ok k) = (k ≡ made_entry m) × (tree_of table ≡ made_tree m)
+Reaches m room table (Ok k) = (k ≡ made_entry m) × (growing_tree table ≡ made_tree m)
 Reaches m room table (Err c) = (c ≡ LimitOrMemory) × (limits (made_tree m) table.words ≡ Ok tt → room < length (encode (made_tree m)))

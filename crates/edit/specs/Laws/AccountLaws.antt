@@ -18,11 +18,11 @@ use Rattle.space.specs.Inner.Scan.{longest_from, gone_of}
 use Rattle.space.specs.Laws.LargestLaws.{largest-after}
 use Rattle.space.specs.Laws.TotalsLaws.{same-verdict, same-moved}
 use Rattle.executable.specs.Program.{program_behind}
-use Rattle.opened.specs.Opening.{nodes_in, behind_table, used_in, used_of, free_space_of, Disc, disc_of}
+use Rattle.opened.specs.Opening.{nodes_in, regions_behind_table, used_in, used_of, free_space_of, Disc, disc_of}
 use Rattle.opened.proofs.Laws.OpeningLaws.{used-regions}
-use Rattle.opened.specs.Inner.Prepared.{OpenImage, IsOpen}
-use Rattle.edits.specs.Change.{Change, table_verdict, Plan, refused, nothing, change, filled}
-use Rattle.edits.specs.Edits.{plan_verdict, totals_to}
+use Rattle.opened.specs.Inner.Prepared.{IsOpenImage, IsOpen}
+use Rattle.edit_rules.specs.Change.{Change, table_verdict, Plan, refused, nothing, change, filled}
+use Rattle.edit_rules.specs.Edits.{plan_verdict, totals_to}
 use Rattle.ledger.proofs.Laws.Files.{places_in, used-files}
 use Rattle.ledger.proofs.Laws.Opened.{opened}
 use Rattle.ledger.proofs.Laws.Room as room-law
@@ -31,18 +31,18 @@ use Rattle.edit.specs.declared.decision.Writing.{Writing}
 use Rattle.edit.specs.declared.decision.Decision.{Decision}
 use Rattle.edit.specs.declared.decision.Decision.TheVariants as decision
 use Rattle.edit.specs.Inner.Decision.{DecidedAs}
-use Rattle.edit.specs.Inner.Accounting.{OnDisc, Accounted, accounted, settled_as, moved_by, entered_as, account_of}
+use Rattle.edit.specs.Inner.Accounting.{OnDisc, Accounted, account_with, settled_as, moved_by, entered_as, account_of}
 
 -- ---- by what lies behind the table
 
 used-places : (image : List ℕ) → used_in image ≡ used_regions (table_end image) (places_in image)
-unfolding used_in behind_table
+unfolding used_in regions_behind_table
 used-places image = used-files (table_end image) (program_behind image) (nodes_in image)
 
 total-places : (image : List ℕ) → used_of image ≡ table_end image + total_size (places_in image)
-unfolding used_of behind_table
+unfolding used_of regions_behind_table
 total-places image =
-    sym (total-used (table_end image) (behind_table image)) ∙ ap total_size (used-files (table_end image) (program_behind image) (nodes_in image)) ∙ total-used (table_end image) (places_in image)
+    sym (total-used (table_end image) (regions_behind_table image)) ∙ ap total_size (used-files (table_end image) (program_behind image) (nodes_in image)) ∙ total-used (table_end image) (places_in image)
 
 module _ (image w : List ℕ) (m : ℕ) (o : IsOpen image w m) (image' : List ℕ) (size : ℕ) (old new : DiscRegion) (l : LaidOut image image' size old new) where
   -- LAW: what the table and the edited file gain and lose is the change of used bytes
@@ -70,8 +70,8 @@ module _ (image w : List ℕ) (m : ℕ) (o : IsOpen image w m) (image' : List �
 
 -- a passes the decision on with the new record, or refuses it with the old one
 pub record IsEntered (v : Verdict) (d : Result Decision Refusal) (t t' : Totals) (a : Accounted) : Type 0 where
-  pub passed : v ≡ Ok tt → a ≡ accounted d t'
-  pub refused : (c : Refusal) → v ≡ Err c → a ≡ accounted (Err c) t
+  pub passed : v ≡ Ok tt → a ≡ account_with d t'
+  pub refused : (c : Refusal) → v ≡ Err c → a ≡ account_with (Err c) t
 
 -- the table in the working bytes has the size that was decided on
 table-size : (bytes table : List ℕ) (room size : ℕ) → length bytes ≡ room → size ≤ room → span bytes 0 size ≡ table → length table ≡ size
@@ -82,7 +82,7 @@ module _ (image w : List ℕ) (m room : ℕ) (bytes : List ℕ) (long : length b
   abbrev pub tested : Plan → Verdict
   tested p = first (plan_verdict p (disc_of image) (length w) room) (totals_verdict t (used_of image) (used_of image'))
 
-  refused-entered : (p : Plan) (c : Refusal) → Err c ≡ plan_verdict p (disc_of image) (length w) room → IsEntered (tested p) (Err c) t (totals_to t image image') (accounted (Err c) t)
+  refused-entered : (p : Plan) (c : Refusal) → Err c ≡ plan_verdict p (disc_of image) (length w) room → IsEntered (tested p) (Err c) t (totals_to t image image') (account_with (Err c) t)
   refused-entered p c h =
       let e : tested p ≡ Err c = rw (← h) in
       record {
@@ -97,10 +97,10 @@ module _ (image w : List ℕ) (m room : ℕ) (bytes : List ℕ) (long : length b
       25-is : tested p ≡ totals_verdict t (used_of image) (used_of image')
       25-is = rw (← h)
 
-      go : tested p ≡ Ok tt → settled_as d (moved_by t (used_of image) (used_of image') (largest_size (free_space_of image'))) ≡ accounted (Ok d) (totals_to t image image')
+      go : tested p ≡ Ok tt → settled_as d (moved_by t (used_of image) (used_of image') (largest_size (free_space_of image'))) ≡ account_with (Ok d) (totals_to t image image')
       go q = rw (sym 25-is ∙ q)
 
-      stop : (c : Refusal) → tested p ≡ Err c → settled_as d (moved_by t (used_of image) (used_of image') (largest_size (free_space_of image'))) ≡ accounted (Err c) t
+      stop : (c : Refusal) → tested p ≡ Err c → settled_as d (moved_by t (used_of image) (used_of image') (largest_size (free_space_of image'))) ≡ account_with (Err c) t
       stop c q = rw (sym 25-is ∙ q)
 
   -- nothing is written but a clip
@@ -144,7 +144,7 @@ module _ (image w : List ℕ) (m room : ℕ) (bytes : List ℕ) (long : length b
   entered (filled k y (filled j z p)) clip (Ok (decision.Write n size x)) h l = absurd h.carries
 
 -- LAW: a table that is to be written ends on the disc
-module _ (d : Disc) (image : List ℕ) (words : ℕ) (known : OpenImage image words) (is : disc_of image ≡ d) (room : ℕ) (bytes clip : List ℕ) (long : length bytes ≡ room) where
+module _ (d : Disc) (image : List ℕ) (words : ℕ) (known : IsOpenImage image words) (is : disc_of image ≡ d) (room : ℕ) (bytes clip : List ℕ) (long : length bytes ≡ room) where
   table-ends : (c : Change) (size : ℕ) → table_verdict c (disc_of image) words room ≡ Ok tt → size ≤ room → span bytes 0 size ≡ encode c.nodes → d.start + size ≤ d.end
   table-ends c size v held e =
       let start : fst_offset image ≡ d.start = ap (λ (x : Disc). x.start) is in
@@ -162,9 +162,3 @@ module _ (d : Disc) (image : List ℕ) (words : ℕ) (known : OpenImage image wo
   on-disc (filled k y nothing) (Ok (decision.Write n size w)) h = absurd h.carries
   on-disc (filled k y (refused v)) (Ok (decision.Write n size w)) h = absurd h.carries
   on-disc (filled k y (filled j z p)) (Ok (decision.Write n size w)) h = absurd h.carries
-
--- LAW: what is decided on may be entered in the record
-pub may-account : (p : Plan) (image w : List ℕ) (m room : ℕ) (bytes clip : List ℕ) (d : Result Decision Refusal) → DecidedAs (plan_verdict p (disc_of image) (length w) room) p image room bytes clip d → IsOpen image w m → length bytes ≡ room →
-    IsOpen image w m × OnDisc (disc_of image) d
-may-account p image w m room bytes clip d h o long =
-    (o, on-disc (disc_of image) image (length w) o.known refl room bytes clip long p d h)

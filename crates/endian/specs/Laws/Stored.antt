@@ -11,7 +11,7 @@ use Rattle.std.proofs.Math.ListN.{length, drop, length-append, length-drop, get_
 use Rattle.std.proofs.lemmas.List.Edits.{sets, sets-eq}
 use Rattle.std.proofs.Math.Seq.{get_or-take, take-append_seam, drop-drop, append_snoc}
 use Rattle.std.proofs.lemmas.List.{set_at}
-use Rattle.endian.specs.Bytes.{be24, be32, be24_bytes, be32_bytes, put, span, same_bytes, AllBytes}
+use Rattle.endian.specs.Bytes.{be24, be32, be24_bytes, be32_bytes, put, span, are_same_bytes, AllBytes}
 use Rattle.refusal.specs.Laws.Tests.{lt-or-le}
 
 -- ---- numbers: their bytes give the number back
@@ -35,11 +35,7 @@ pub be24-drop : (n : ℕ) (s : List ℕ) (i : ℕ) → be24 (drop n s) i ≡ be2
 unfolding be24
 be24-drop n s i = simp (get_or-drop, add_assoc)
 
--- bytes spell a number of 24, and of 32 bits
-pub be24-small : (s : List ℕ) (at : ℕ) → AllBytes s → be24 s at < 2 ^ 24
-unfolding be24
-be24-small s at b = omega (arith, b at, b (at + 1), b (at + 2))
-
+-- bytes spell a number of 32 bits
 pub be32-small : (s : List ℕ) (at : ℕ) → AllBytes s → be32 s at < 2 ^ 32
 unfolding be32
 be32-small s at b = omega (arith, b at, b (at + 1), b (at + 2), b (at + 3))
@@ -177,18 +173,18 @@ span_ext l m at n h k f =
 
 -- ---- bytes compared
 
-pub same_refl : (s : List ℕ) → same_bytes s s ≡ true
-unfolding same_bytes
+pub same_refl : (s : List ℕ) → are_same_bytes s s ≡ true
+unfolding are_same_bytes
 same_refl [] = refl
 same_refl (x ∷ xs) = rw (eq-eqb x x refl) (same_refl xs)
 
-pub same-eq : (s t : List ℕ) → same_bytes s t ≡ true → s ≡ t
-unfolding same_bytes
+pub same-eq : (s t : List ℕ) → are_same_bytes s t ≡ true → s ≡ t
+unfolding are_same_bytes
 same-eq [] [] h = refl
 same-eq [] (y ∷ ys) h = let z : ◌≡◌ {A = ℕ} 0 1 = cc in absurd (omega arith)
 same-eq (x ∷ xs) [] h = let z : ◌≡◌ {A = ℕ} 0 1 = cc in absurd (omega arith)
 same-eq (x ∷ xs) (y ∷ ys) h = go (eqb x y) refl h (same-eq xs ys)
   where
-    go : (t : Bool) → eqb x y ≡ t → (t && same_bytes xs ys) ≡ true → (same_bytes xs ys ≡ true → xs ≡ ys) → x ∷ xs ≡ y ∷ ys
+    go : (t : Bool) → eqb x y ≡ t → (t && are_same_bytes xs ys) ≡ true → (are_same_bytes xs ys ≡ true → xs ≡ ys) → x ∷ xs ≡ y ∷ ys
     go true e q f = rw (eqb-true x y e, f q)
     go false e q f = let z : ◌≡◌ {A = ℕ} 0 1 = cc in absurd (omega arith)

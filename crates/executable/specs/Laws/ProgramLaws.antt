@@ -12,7 +12,7 @@ use Rattle.space.specs.declared.region.DiscRegion.{DiscRegion}
 use Rattle.space.specs.Used.{end_of, no_region}
 use Rattle.executable.specs.Dol.{dol_header_of, file_size_of, dol_verdict_of}
 use Rattle.executable.specs.Laws.DolFacts.{header-same}
-use Rattle.executable.specs.Program.{program_from, program_of, program_verdict, program_in, before_table, own_region}
+use Rattle.executable.specs.Program.{program_from, program_of, program_verdict, program_in, is_before_table, own_region}
 
 -- ---- accepted: there is none, or it lies at the DOL offset
 
@@ -33,9 +33,9 @@ accepted image p = go (eqb (dol_offset image) 0) refl (dol_verdict_of image (dol
 
 pub own-cases : (fst : ℕ) (r : DiscRegion) → ((0x440 ≤ r.offset) × (end_of r ≤ fst) × (own_region fst r ≡ no_region)) ⊎ (own_region fst r ≡ r)
 unfolding own_region
-own-cases fst r = go (before_table fst r) refl
+own-cases fst r = go (is_before_table fst r) refl
   where
-    go : (b : Bool) → before_table fst r ≡ b → ((0x440 ≤ r.offset) × (end_of r ≤ fst) × (cond b no_region r ≡ no_region)) ⊎ (cond b no_region r ≡ r)
+    go : (b : Bool) → is_before_table fst r ≡ b → ((0x440 ≤ r.offset) × (end_of r ≤ fst) × (cond b no_region r ≡ no_region)) ⊎ (cond b no_region r ≡ r)
     go true e = inl (leb-true _ _ (and_left (leb 0x440 r.offset) (leb (end_of r) fst) e), leb-true _ _ (and_right (leb 0x440 r.offset) (leb (end_of r) fst) e), refl)
     go false e = inr refl
 

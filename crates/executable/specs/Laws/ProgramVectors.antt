@@ -5,8 +5,8 @@ use Rattle.endian.specs.Bytes.{be32}
 use Rattle.refusal.specs.declared.Refusal.TheVariants.{OverlappingRegions}
 use Rattle.refusal.specs.Refusal.{number_of, Verdict}
 use Rattle.space.specs.declared.region.DiscRegion.{DiscRegion}
-use Rattle.space.specs.Used.{nonempty, total_size, used_regions, used_total}
-use Rattle.space.specs.Layout.{disjoint, disjoint_from_all, pairwise_disjoint, end_by, disjoint_below, regions_verdict}
+use Rattle.space.specs.Used.{nonempty_regions, total_size, used_regions, used_total}
+use Rattle.space.specs.Layout.{are_disjoint, is_disjoint_from_all, are_pairwise_disjoint, are_below, are_disjoint_below, regions_verdict}
 use Rattle.executable.specs.Dol.{words_at, largest_of}
 use Rattle.executable.specs.Program.{program_from, own_region}
 
@@ -38,7 +38,7 @@ pub record Places : Type 0 where
   pub fourteen : number_of OverlappingRegions ≡ 14
 
 pub places : Places
-unfolding own_region nonempty total_size disjoint_below pairwise_disjoint disjoint_from_all disjoint end_by
+unfolding own_region nonempty_regions total_size are_disjoint_below are_pairwise_disjoint is_disjoint_from_all are_disjoint are_below
 places = record {
   abuts-table = refl;
   in_table = refl;

@@ -11,7 +11,7 @@ abbrev pub field_at : ℕ → Field
 field_at k = nth fields k
 
 -- what the tests of a field ask of its place: inside the header, and a magic has 4 bytes
-pub record Judged (f : Field) : Type 0 where
+pub record IsJudged (f : Field) : Type 0 where
   pub inside : f.at + f.len ≤ 0x440
   pub wii : f.at ≡ wii_magic_field.at → f.len ≡ 4
   pub gcn : f.at ≡ gcn_magic_field.at → f.len ≡ 4

@@ -14,8 +14,8 @@ use Rattle.header.specs.declared.fields.Field.{Field}
 use Rattle.header.specs.Fields.{fields}
 use Rattle.header.specs.Inner.Judged.{field_at, nth}
 use Rattle.header.specs.Laws.Tiling.{fields-count, every-at}
-use Rattle.header.specs.Verdicts.{gcn_magic, wii_magic, word_of, field_verdict, fields_verdict, header_verdict, fst_offset, fst_size, user_size, disc_size, disc_end, table_end, bounds_verdict}
-use Rattle.header.specs.Inner.Judged.{Judged}
+use Rattle.header.specs.Verdicts.{gcn_magic, wii_magic, word_of, field_verdict, all_fields_verdict, header_verdict, fst_offset, fst_size, user_size, disc_size, disc_end, table_end, bounds_verdict}
+use Rattle.header.specs.Inner.Judged.{IsJudged}
 
 -- LAW: the places that the header gives are judged by four fields and the image's length: not by the FST maximum
 pub bounds-same : (image image' : List ℕ) → length image' ≡ length image → fst_offset image' ≡ fst_offset image → fst_size image' ≡ fst_size image → user_size image' ≡ user_size image → disc_size image' ≡ disc_size image →
@@ -30,7 +30,7 @@ word-at : (at : ℕ) (f : Field) → word_at at f ≡ true → f.at ≡ at → f
 unfolding word_at
 word-at at f e o = eqb-true f.len 4 (rw (eq-eqb f.at at o) at e)
 
-pub judged : (k : ℕ) → k < 21 → Judged (field_at k)
+pub judged : (k : ℕ) → k < 21 → IsJudged (field_at k)
 unfolding fields word_at
 judged k h = record {
   inside = leb-true ((field_at k).at + (field_at k).len) 0x440 (every-at (λ f. leb (f.at + f.len) 0x440) fields refl k h);
@@ -102,14 +102,14 @@ module _ (image : List ℕ) (f : Field) (e : field_verdict image f ≡ Ok tt) wh
       eqb-true (word_of f image) gcn_magic (not-false (eqb (word_of f image) gcn_magic) (rw (eq-eqb f.at 0x1C o) at t))
 
 module _ (image : List ℕ) where
-  each-passed : (fs : List Field) → fields_verdict image fs ≡ Ok tt → (k : ℕ) → k < length fs → field_verdict image (nth fs k) ≡ Ok tt
-  unfolding fields_verdict
+  each-passed : (fs : List Field) → all_fields_verdict image fs ≡ Ok tt → (k : ℕ) → k < length fs → field_verdict image (nth fs k) ≡ Ok tt
+  unfolding all_fields_verdict
   each-passed [] e k h = absurd (omega arith)
-  each-passed (f ∷ fs) e zero h = (first-passed (field_verdict image f) (fields_verdict image fs) e).0
-  each-passed (f ∷ fs) e (suc k) h = each-passed fs (first-passed (field_verdict image f) (fields_verdict image fs) e).1 k (omega arith)
+  each-passed (f ∷ fs) e zero h = (first-passed (field_verdict image f) (all_fields_verdict image fs) e).0
+  each-passed (f ∷ fs) e (suc k) h = each-passed fs (first-passed (field_verdict image f) (all_fields_verdict image fs) e).1 k (omega arith)
 
-  all_pass : (fs : List Field) → ((k : ℕ) → k < length fs → field_verdict image (nth fs k) ≡ Ok tt) → fields_verdict image fs ≡ Ok tt
-  unfolding fields_verdict
+  all_pass : (fs : List Field) → ((k : ℕ) → k < length fs → field_verdict image (nth fs k) ≡ Ok tt) → all_fields_verdict image fs ≡ Ok tt
+  unfolding all_fields_verdict
   all_pass [] p = refl
   all_pass (f ∷ fs) p = rw (p 0 (omega arith)) (all_pass fs (λ k h. p (suc k) (omega arith)))
 
@@ -121,7 +121,7 @@ module _ (image : List ℕ) where
     is-gcn = a-gcn image (field_at 8) (each-passed fields e 8 (omega arith)) refl;
   }
 
-  good-field : (f : Field) → Judged f → GoodHeader image → field_verdict image f ≡ Ok tt
+  good-field : (f : Field) → IsJudged f → GoodHeader image → field_verdict image f ≡ Ok tt
   good-field f j g = go (eqb f.at 0x18) refl (eqb f.at 0x1C) refl
     where
       fits : f.at + f.len ≤ length image

@@ -18,7 +18,7 @@ use Rattle.refusal.specs.Refusal.{refuse, first}
 use Rattle.header.specs.declared.fields.Field.{Field}
 use Rattle.header.specs.Fields.{fields, wii_magic_field, gcn_magic_field, game_name_field}
 use Rattle.header.specs.Laws.Tiling.{tile}
-use Rattle.header.specs.Verdicts.{gcn_magic, wii_magic, field_verdict, fields_verdict, header_verdict}
+use Rattle.header.specs.Verdicts.{gcn_magic, wii_magic, field_verdict, all_fields_verdict, header_verdict}
 use Rattle.refusal.specs.Laws.Tests.{and_left, and_right}
 use Rattle.header.specs.Laws.Tiling.{every_field, tile-start, tile-rest}
 
@@ -50,18 +50,18 @@ module _ (image : List ℕ) where
       rw (a, b)
 
   -- a run of fields that are no magics: whether the image reaches its end
-  run : (fs gs : List Field) (a b : ℕ) → tile a b fs ≡ true → every_field plain fs ≡ true → short a (fields_verdict image (fs ++ gs)) ≡ short b (fields_verdict image gs)
-  unfolding fields_verdict
+  run : (fs gs : List Field) (a b : ℕ) → tile a b fs ≡ true → every_field plain fs ≡ true → short a (all_fields_verdict image (fs ++ gs)) ≡ short b (all_fields_verdict image gs)
+  unfolding all_fields_verdict
   run [] gs a b t p = rw (eqb-true a b t)
   run (f ∷ fs) gs a b t p =
       let o : f.at ≡ a = tile-start a b f fs t in
       let r : tile (a + f.len) b fs ≡ true = tile-rest a b f fs t in
       let l : a ≤ a + f.len = omega arith in
-      rw (plain-field f (and_left (plain f) (every_field plain fs) p), o, first-refuse (ltb (length image) (a + f.len)) HeaderPastImage (Ok tt) (fields_verdict image (fs ++ gs)), merge (length image) a (a + f.len) HeaderPastImage (fields_verdict image (fs ++ gs)) l)
+      rw (plain-field f (and_left (plain f) (every_field plain fs) p), o, first-refuse (ltb (length image) (a + f.len)) HeaderPastImage (Ok tt) (all_fields_verdict image (fs ++ gs)), merge (length image) a (a + f.len) HeaderPastImage (all_fields_verdict image (fs ++ gs)) l)
       (run fs gs (a + f.len) b r (and_right (plain f) (every_field plain fs) p))
 
-  step : (f : Field) (fs : List Field) → fields_verdict image (f ∷ fs) ≡ first (field_verdict image f) (fields_verdict image fs)
-  unfolding fields_verdict
+  step : (f : Field) (fs : List Field) → all_fields_verdict image (f ∷ fs) ≡ first (field_verdict image f) (all_fields_verdict image fs)
+  unfolding all_fields_verdict
   step f fs = refl
 
   wii-field : (later : Verdict) → first (field_verdict image wii_magic_field) later ≡ short 0x1C (refuse (eqb (be32 image 0x18) wii_magic) WiiNotSupported later)
@@ -73,19 +73,19 @@ module _ (image : List ℕ) where
   gcn-field later = rw (first-refuse (ltb (length image) 0x20) HeaderPastImage (refuse (not (eqb (be32 image 0x1C) gcn_magic)) InvalidMagic (Ok tt)) later, first-refuse (not (eqb (be32 image 0x1C) gcn_magic)) InvalidMagic (Ok tt) later)
 
   -- the fields before the magics, and those behind them
-  front : header_verdict image ≡ short 0x18 (fields_verdict image (drop 7 fields))
+  front : header_verdict image ≡ short 0x18 (all_fields_verdict image (drop 7 fields))
   unfolding header_verdict fields
   front = let z : 0 ≤ length image = omega arith in rw (le-ltb (length image) 0 z) at (run (take 7 fields) (drop 7 fields) 0 0x18 refl refl)
 
-  none : fields_verdict image [] ≡ Ok tt
-  unfolding fields_verdict
+  none : all_fields_verdict image [] ≡ Ok tt
+  unfolding all_fields_verdict
   none = refl
 
-  back : fields_verdict image (drop 9 fields) ≡ short 0x440 (Ok tt)
+  back : all_fields_verdict image (drop 9 fields) ≡ short 0x440 (Ok tt)
   unfolding fields
   back =
       step game_name_field (drop 10 fields)
-      ∙ rw (plain-field game_name_field refl, first-refuse (ltb (length image) 0x400) HeaderPastImage (Ok tt) (fields_verdict image (drop 10 fields))) (rw none at (run (drop 10 fields) [] 0x400 0x440 refl refl))
+      ∙ rw (plain-field game_name_field refl, first-refuse (ltb (length image) 0x400) HeaderPastImage (Ok tt) (all_fields_verdict image (drop 10 fields))) (rw none at (run (drop 10 fields) [] 0x400 0x440 refl refl))
 
   pub header-order : header_verdict image
       ≡ short 0x1C
@@ -95,8 +95,8 @@ module _ (image : List ℕ) where
       (short 0x440 (Ok tt)))))
   unfolding fields
   header-order =
-      let g : fields_verdict image (drop 8 fields) ≡ short 0x20 (refuse (not (eqb (be32 image 0x1C) gcn_magic)) InvalidMagic (short 0x440 (Ok tt))) =
-      step gcn_magic_field (drop 9 fields) ∙ gcn-field (fields_verdict image (drop 9 fields)) ∙ rw back in
-      let w : fields_verdict image (drop 7 fields) ≡ short 0x1C (refuse (eqb (be32 image 0x18) wii_magic) WiiNotSupported (fields_verdict image (drop 8 fields))) =
-      step wii_magic_field (drop 8 fields) ∙ wii-field (fields_verdict image (drop 8 fields)) in
+      let g : all_fields_verdict image (drop 8 fields) ≡ short 0x20 (refuse (not (eqb (be32 image 0x1C) gcn_magic)) InvalidMagic (short 0x440 (Ok tt))) =
+      step gcn_magic_field (drop 9 fields) ∙ gcn-field (all_fields_verdict image (drop 9 fields)) ∙ rw back in
+      let w : all_fields_verdict image (drop 7 fields) ≡ short 0x1C (refuse (eqb (be32 image 0x18) wii_magic) WiiNotSupported (all_fields_verdict image (drop 8 fields))) =
+      step wii_magic_field (drop 8 fields) ∙ wii-field (all_fields_verdict image (drop 8 fields)) in
       front ∙ rw (w, g) (merge (length image) 0x18 0x1C HeaderPastImage _ (omega arith))

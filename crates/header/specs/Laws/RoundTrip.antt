@@ -12,7 +12,7 @@ use Rattle.header.specs.declared.value.DiscHeader.{DiscHeader}
 use Rattle.header.specs.Fields.{fields, game_code_field, maker_code_field, disc_id_field, version_field, audio_streaming_field, stream_buffer_size_field, unused00a_field, wii_magic_field, gcn_magic_field, game_name_field, debug_monitor_offset_field, debug_monitor_addr_field, unused408_field, dol_offset_field, fst_offset_field, fst_size_field, fst_max_size_field, user_position_field, user_size_field, disc_size_field, unused43c_field}
 use Rattle.header.specs.Inner.Judged.{nth}
 use Rattle.header.specs.Verdicts.{gcn_magic, wii_magic, word_of, header_verdict}
-use Rattle.header.specs.Header.{bytes_of, byte_of, header_of, header_read, field_bytes, put_fields, put_header, image_with_header}
+use Rattle.header.specs.Header.{bytes_of, byte_in, header_of, header_answer, field_bytes, put_fields, put_header, image_with_header}
 use Rattle.header.specs.Laws.FieldTests.{GoodHeader, header-passed, header-passes}
 use Rattle.header.specs.Laws.Tiling.{fields-tile, tile-start, tile-rest, tile-le, tile}
 use Rattle.endian.specs.Laws.Stays.{put-span, byte-span, be32-span}
@@ -102,7 +102,7 @@ module _ (image : List ℕ) (whole : 0x440 ≤ length image) (bytes : AllBytes i
   spans : field_bytes (header_of image) ≡ map (λ (f : Field). bytes_of f image) fields
   unfolding fields field_bytes header_of
   spans =
-      let b : (f : Field) → f.at + 1 ≤ 0x440 → byte_of f image ∷ [] ≡ span image f.at 1 = λ f h. sym (byte-span image f.at (omega arith)) in
+      let b : (f : Field) → f.at + 1 ≤ 0x440 → byte_in f image ∷ [] ≡ span image f.at 1 = λ f h. sym (byte-span image f.at (omega arith)) in
       let w : (f : Field) → f.at + 4 ≤ 0x440 → be32_bytes (word_of f image) ≡ span image f.at 4 = λ f h. be32-span image f.at bytes (omega arith) in
       λ i. bytes_of game_code_field image ∷ bytes_of maker_code_field image ∷ b disc_id_field (omega arith) i ∷ b version_field (omega arith) i ∷ b audio_streaming_field (omega arith) i ∷ b stream_buffer_size_field (omega arith) i ∷ bytes_of unused00a_field image ∷ w wii_magic_field (omega arith) i ∷ w gcn_magic_field (omega arith) i ∷ bytes_of game_name_field image ∷ w debug_monitor_offset_field (omega arith) i ∷ w debug_monitor_addr_field (omega arith) i ∷ bytes_of unused408_field image ∷ w dol_offset_field (omega arith) i ∷ w fst_offset_field (omega arith) i ∷ w fst_size_field (omega arith) i ∷ w fst_max_size_field (omega arith) i ∷ w user_position_field (omega arith) i ∷ w user_size_field (omega arith) i ∷ w disc_size_field (omega arith) i ∷ w unused43c_field (omega arith) i ∷ []
 
@@ -110,7 +110,7 @@ module _ (image : List ℕ) (whole : 0x440 ≤ length image) (bytes : AllBytes i
   write_read = rw spans (put-spans 0 0x440 fields image fields-tile whole)
 
 -- a header that was read as good is written back as it was: the game name, the word at 0x18 and the unused runs too
-pub write-after-read : (image : List ℕ) (h : DiscHeader) → header_read image ≡ Ok h → AllBytes image → image_with_header h image ≡ image
+pub write-after-read : (image : List ℕ) (h : DiscHeader) → header_answer image ≡ Ok h → AllBytes image → image_with_header h image ≡ image
 write-after-read image h e bytes = go (header_verdict image) refl e
   where
     go : (v : Verdict) → header_verdict image ≡ v → result_and v (Ok (header_of image)) ≡ Ok h → image_with_header h image ≡ image
@@ -195,5 +195,5 @@ module _ (h : DiscHeader) (s : Sized h) (image : List ℕ) (whole : 0x440 ≤ le
     }
 
     -- a header whose magics are good is read as it was written
-    pub read-after-write : header_read (image_with_header h image) ≡ Ok h
+    pub read-after-write : header_answer (image_with_header h image) ≡ Ok h
     read-after-write = rw (le-ltb (length image) 0x440 whole, header-passes (put_header h image) good, read-write)

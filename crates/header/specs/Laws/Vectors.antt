@@ -4,7 +4,7 @@ use Rattle.std.specs.Prelude.{ℕ, ◌≡◌, refl, List, [], ◌∷◌, ◌++�
 use Rattle.endian.specs.Bytes.{be32, be32_bytes}
 use Rattle.refusal.specs.declared.Refusal.TheVariants.{HeaderPastImage, WiiNotSupported, InvalidMagic, InvalidBounds}
 use Rattle.header.specs.Fields.{fields}
-use Rattle.header.specs.Verdicts.{field_verdict, fields_verdict, header_verdict, bounds_verdict, user_size, disc_size}
+use Rattle.header.specs.Verdicts.{field_verdict, all_fields_verdict, header_verdict, bounds_verdict, user_size, disc_size}
 
 abbrev zeros : ℕ → List ℕ
 zeros n = replicate n 0
@@ -23,27 +23,27 @@ good = zeros 0x1C ++ (gamecube ++ zeros 0x420)
 -- ---- 1, 2 and 3, field by field
 
 bytes-1B : header_verdict (zeros 0x1B) ≡ Err HeaderPastImage
-unfolding fields field_verdict fields_verdict header_verdict be32
+unfolding fields field_verdict all_fields_verdict header_verdict be32
 bytes-1B = refl
 
 bytes-1C-wii : header_verdict (zeros 0x18 ++ wii) ≡ Err WiiNotSupported
-unfolding fields field_verdict fields_verdict header_verdict be32
+unfolding fields field_verdict all_fields_verdict header_verdict be32
 bytes-1C-wii = refl
 
 bytes-1F : header_verdict (take 0x1F good) ≡ Err HeaderPastImage
-unfolding fields field_verdict fields_verdict header_verdict be32
+unfolding fields field_verdict all_fields_verdict header_verdict be32
 bytes-1F = refl
 
 bytes-20-zero : header_verdict (zeros 0x20) ≡ Err InvalidMagic
-unfolding fields field_verdict fields_verdict header_verdict be32
+unfolding fields field_verdict all_fields_verdict header_verdict be32
 bytes-20-zero = refl
 
 bytes-43F : header_verdict (take 0x43F good) ≡ Err HeaderPastImage
-unfolding fields field_verdict fields_verdict header_verdict be32
+unfolding fields field_verdict all_fields_verdict header_verdict be32
 bytes-43F = refl
 
 bytes-440 : header_verdict good ≡ Ok tt
-unfolding fields field_verdict fields_verdict header_verdict be32
+unfolding fields field_verdict all_fields_verdict header_verdict be32
 bytes-440 = refl
 
 -- ---- 4: FST offset, FST size, user size and disc size of an image of 0x441 bytes

@@ -9,7 +9,7 @@ use Rattle.endian.specs.Laws.Stored.{span_ext}
 use Rattle.header.specs.Verdicts.{fst_offset, fst_size, user_size, disc_size, disc_end, table_end}
 use Rattle.header.specs.Laws.FieldTests.{GoodHeader, bounds-same, header-passes, bounds-pass}
 use Rattle.executable.specs.Program.{program_of, program_in}
-use Rattle.opened.specs.Opening.{table_of, nodes_in, behind_table, used_in, layout_verdict, free_space_of, used_of, opening}
+use Rattle.opened.specs.Opening.{table_of, nodes_in, regions_behind_table, used_in, layout_verdict, free_space_of, used_of, opening}
 use Rattle.opened.proofs.Laws.OpeningLaws.{table-accepted}
 use Rattle.ledger.proofs.Laws.Opened.{Opened}
 
@@ -48,11 +48,11 @@ module _ (image image' : List ℕ) (a : Alike image image') where
     tree-same = rw table_same
 
     used-same : used_in image' ≡ used_in image
-    unfolding used_in behind_table program_in
+    unfolding used_in regions_behind_table program_in
     used-same = rw (tree-same, start-same, size_same, a.program)
 
     pub total-same : used_of image' ≡ used_of image
-    unfolding used_of behind_table program_in
+    unfolding used_of regions_behind_table program_in
     total-same = rw (tree-same, start-same, size_same, a.program)
 
     pub free-same : free_space_of image' ≡ free_space_of image

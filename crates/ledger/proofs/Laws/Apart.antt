@@ -4,13 +4,13 @@ use Rattle.std.specs.Prelude.{ℕ, zero, suc, ◌+◌, ◌-◌, ◌<◌, ◌≤�
 use Rattle.std.proofs.Common.{sym, ap, ◌∙◌, inl, inr, ⊎_elim, arith, leb-true, eqb-true, le-leb, get_or-set_same, get_or-set_other}
 use Rattle.std.proofs.lemmas.Bool.{false≢true, eqb-false}
 use Rattle.space.specs.declared.region.DiscRegion.{DiscRegion}
-use Rattle.space.specs.Used.{end_of, inside, uses_byte, used_regions, no_region}
-use Rattle.space.specs.Layout.{disjoint_from_all, pairwise_disjoint, disjoint_below}
-use Rattle.space.specs.Free.{free_in}
+use Rattle.space.specs.Used.{end_of, is_inside, is_used, used_regions, no_region}
+use Rattle.space.specs.Layout.{is_disjoint_from_all, are_pairwise_disjoint, are_disjoint_below}
+use Rattle.space.specs.Free.{is_free_in}
 use Rattle.refusal.specs.Laws.Tests.{lt-or-le, and_left, and_right, and_both, or_cases, or_left, or_right, is_false, never_both}
-use Rattle.space.specs.Laws.UsedLaws.{inside-in, lies_within, files_within, disjoint-below-used}
-use Rattle.space.specs.Laws.LayoutLaws.{inside-from, inside-to, from-all-free, free-from-all}
-use Rattle.edits.proofs.Laws.PlaceTests.{free-byte}
+use Rattle.space.specs.Laws.UsedLaws.{is_inside-in, lies_within, files_within, are_disjoint-below-used}
+use Rattle.space.specs.Laws.LayoutLaws.{is_inside-from, is_inside-to, from-all-free, free-from-all}
+use Rattle.edit_rules.proofs.Laws.PlaceTests.{free-byte}
 
 -- byte i is one of the region's
 abbrev pub Has : DiscRegion → ℕ → Type 0
@@ -28,21 +28,21 @@ pub record Apart (t e : ℕ) (fs : List DiscRegion) : Type 0 where
 
 -- ---- a byte of some region
 
-pub some-used : (fs : List DiscRegion) (k i : ℕ) → Has (region fs k) i → uses_byte fs i ≡ true
-unfolding uses_byte
+pub some-used : (fs : List DiscRegion) (k i : ℕ) → Has (region fs k) i → is_used fs i ≡ true
+unfolding is_used
 some-used [] k i h = absurd (omega arith)
-some-used (x ∷ fs) zero i h = or_left (inside x i) (uses_byte fs i) (inside-in x i h.0 h.1)
-some-used (x ∷ fs) (suc k) i h = or_right (inside x i) (uses_byte fs i) (some-used fs k i h)
+some-used (x ∷ fs) zero i h = or_left (is_inside x i) (is_used fs i) (is_inside-in x i h.0 h.1)
+some-used (x ∷ fs) (suc k) i h = or_right (is_inside x i) (is_used fs i) (some-used fs k i h)
 
-pub used-some : (fs : List DiscRegion) (i : ℕ) → uses_byte fs i ≡ true → (k : ℕ) × Has (region fs k) i
-unfolding uses_byte
+pub used-some : (fs : List DiscRegion) (i : ℕ) → is_used fs i ≡ true → (k : ℕ) × Has (region fs k) i
+unfolding is_used
 used-some [] i u = absurd (false≢true u)
 used-some (x ∷ fs) i u =
-    ⊎_elim (λ h. (0, (inside-from x i h, inside-to x i h))) (λ h. let s = used-some fs i h in (suc s.0, s.1)) (or_cases (inside x i) (uses_byte fs i) u)
+    ⊎_elim (λ h. (0, (is_inside-from x i h, is_inside-to x i h))) (λ h. let s = used-some fs i h in (suc s.0, s.1)) (or_cases (is_inside x i) (is_used fs i) u)
 
 -- a free byte is behind the table and in no file
-pub free-clear : (t : ℕ) (fs : List DiscRegion) (i : ℕ) → free_in (used_regions t fs) i ≡ true → (t ≤ i) × ((k : ℕ) → Has (region fs k) i → ⊥)
-free-clear t fs i f = let o = free-byte t fs i f in (o.0, λ k h. never_both (uses_byte fs i) (some-used fs k i h) o.1)
+pub free-clear : (t : ℕ) (fs : List DiscRegion) (i : ℕ) → is_free_in (used_regions t fs) i ≡ true → (t ≤ i) × ((k : ℕ) → Has (region fs k) i → ⊥)
+free-clear t fs i f = let o = free-byte t fs i f in (o.0, λ k h. never_both (is_used fs i) (some-used fs k i h) o.1)
 
 -- ---- the test of opening
 
@@ -55,24 +55,24 @@ lie-of t e (x ∷ fs) w zero i h =
     (or_cases (eqb x.size 0) (leb t x.offset && leb (end_of x) e) (and_left (lies_within t e x) (files_within t e fs) w))
 lie-of t e (x ∷ fs) w (suc k) i h = lie-of t e fs (and_right (lies_within t e x) (files_within t e fs) w) k i h
 
-pub apart_of : (fs : List DiscRegion) → pairwise_disjoint fs ≡ true → (j k i : ℕ) → Has (region fs j) i → Has (region fs k) i → j ≡ k
-unfolding pairwise_disjoint
+pub apart_of : (fs : List DiscRegion) → are_pairwise_disjoint fs ≡ true → (j k i : ℕ) → Has (region fs j) i → Has (region fs k) i → j ≡ k
+unfolding are_pairwise_disjoint
 apart_of [] p j k i g h = absurd (omega arith)
 apart_of (x ∷ fs) p zero zero i g h = refl
 apart_of (x ∷ fs) p zero (suc k) i g h =
-    absurd (never_both (uses_byte fs i) (some-used fs k i h) (from-all-free x fs i (and_left (disjoint_from_all x fs) (pairwise_disjoint fs) p) (inside-in x i g.0 g.1)))
+    absurd (never_both (is_used fs i) (some-used fs k i h) (from-all-free x fs i (and_left (is_disjoint_from_all x fs) (are_pairwise_disjoint fs) p) (is_inside-in x i g.0 g.1)))
 apart_of (x ∷ fs) p (suc j) zero i g h =
-    absurd (never_both (uses_byte fs i) (some-used fs j i g) (from-all-free x fs i (and_left (disjoint_from_all x fs) (pairwise_disjoint fs) p) (inside-in x i h.0 h.1)))
-apart_of (x ∷ fs) p (suc j) (suc k) i g h = ap suc (apart_of fs (and_right (disjoint_from_all x fs) (pairwise_disjoint fs) p) j k i g h)
+    absurd (never_both (is_used fs i) (some-used fs j i g) (from-all-free x fs i (and_left (is_disjoint_from_all x fs) (are_pairwise_disjoint fs) p) (is_inside-in x i h.0 h.1)))
+apart_of (x ∷ fs) p (suc j) (suc k) i g h = ap suc (apart_of fs (and_right (is_disjoint_from_all x fs) (are_pairwise_disjoint fs) p) j k i g h)
 
-pub apart_from : (t e : ℕ) (fs : List DiscRegion) → 0 < t → disjoint_below e (used_regions t fs) ≡ true → Apart t e fs
+pub apart_from : (t e : ℕ) (fs : List DiscRegion) → 0 < t → are_disjoint_below e (used_regions t fs) ≡ true → Apart t e fs
 apart_from t e fs z d =
-    let d' : (leb t e && (files_within t e fs && pairwise_disjoint fs)) ≡ true = rw (disjoint-below-used t e fs z) at d in
-    let r = and_right (leb t e) (files_within t e fs && pairwise_disjoint fs) d' in
+    let d' : (leb t e && (files_within t e fs && are_pairwise_disjoint fs)) ≡ true = rw (are_disjoint-below-used t e fs z) at d in
+    let r = and_right (leb t e) (files_within t e fs && are_pairwise_disjoint fs) d' in
     record {
-      table = leb-true t e (and_left (leb t e) (files_within t e fs && pairwise_disjoint fs) d');
-      lie = lie-of t e fs (and_left (files_within t e fs) (pairwise_disjoint fs) r);
-      apart = apart_of fs (and_right (files_within t e fs) (pairwise_disjoint fs) r);
+      table = leb-true t e (and_left (leb t e) (files_within t e fs && are_pairwise_disjoint fs) d');
+      lie = lie-of t e fs (and_left (files_within t e fs) (are_pairwise_disjoint fs) r);
+      apart = apart_of fs (and_right (files_within t e fs) (are_pairwise_disjoint fs) r);
     }
 
 of-lie : (t e : ℕ) (fs : List DiscRegion) → ((k i : ℕ) → Has (region fs k) i → (t ≤ i) × (i < e)) → files_within t e fs ≡ true
@@ -88,18 +88,18 @@ of-lie t e (x ∷ fs) l = and_both (lies_within t e x) (files_within t e fs) (go
         and_both (leb t x.offset) (leb (end_of x) e) (le-leb t x.offset (l 0 x.offset (omega arith, omega arith)).0)
         (le-leb (end_of x) e (omega (arith, (l 0 (x.offset + x.size - 1) (omega arith, omega arith)).1)))
 
-of-apart : (fs : List DiscRegion) → ((j k i : ℕ) → Has (region fs j) i → Has (region fs k) i → j ≡ k) → pairwise_disjoint fs ≡ true
-unfolding pairwise_disjoint
+of-apart : (fs : List DiscRegion) → ((j k i : ℕ) → Has (region fs j) i → Has (region fs k) i → j ≡ k) → are_pairwise_disjoint fs ≡ true
+unfolding are_pairwise_disjoint
 of-apart [] a = refl
 of-apart (x ∷ fs) a =
-    and_both (disjoint_from_all x fs) (pairwise_disjoint fs) (free-from-all x fs (λ i u. is_false (uses_byte fs i) (clash i u)))
+    and_both (is_disjoint_from_all x fs) (are_pairwise_disjoint fs) (free-from-all x fs (λ i u. is_false (is_used fs i) (clash i u)))
     (of-apart fs (λ j k i g h. let e : suc j ≡ suc k = a (suc j) (suc k) i g h in omega arith))
   where
-    clash : (i : ℕ) → inside x i ≡ true → uses_byte fs i ≡ true → ⊥
-    clash i u v = let s = used-some fs i v in omega (arith, a 0 (suc s.0) i (inside-from x i u, inside-to x i u) s.1)
+    clash : (i : ℕ) → is_inside x i ≡ true → is_used fs i ≡ true → ⊥
+    clash i u v = let s = used-some fs i v in omega (arith, a 0 (suc s.0) i (is_inside-from x i u, is_inside-to x i u) s.1)
 
-pub apart-test : (t e : ℕ) (fs : List DiscRegion) → 0 < t → Apart t e fs → disjoint_below e (used_regions t fs) ≡ true
-apart-test t e fs z a = rw (disjoint-below-used t e fs z, le-leb t e a.table, of-lie t e fs a.lie, of-apart fs a.apart)
+pub apart-test : (t e : ℕ) (fs : List DiscRegion) → 0 < t → Apart t e fs → are_disjoint_below e (used_regions t fs) ≡ true
+apart-test t e fs z a = rw (are_disjoint-below-used t e fs z, le-leb t e a.table, of-lie t e fs a.lie, of-apart fs a.apart)
 
 -- ---- another table's end, and another place for one file
 

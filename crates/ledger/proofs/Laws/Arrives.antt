@@ -16,23 +16,23 @@ use Rattle.refusal.specs.Refusal.{refuse, first}
 use Rattle.refusal.specs.Laws.Chains.{refuse-passed, first-passed}
 use Rattle.refusal.specs.Laws.Tests.{or-false}
 use Rattle.header.specs.Verdicts.{fst_size}
-use Rattle.tree.specs.Table.{Node, none, encode}
+use Rattle.tree.specs.Table.{Node, empty_root, encode}
 use Rattle.tree.specs.Inner.WellFormed.{IsWellFormed}
 use Rattle.tree.specs.Lookup.{is_directory, components}
 use Rattle.tree.specs.Insert.{insert_at, empty_file, empty_directory}
 use Rattle.space.specs.declared.region.DiscRegion.{DiscRegion}
-use Rattle.space.specs.Used.{nonempty}
+use Rattle.space.specs.Used.{nonempty_regions}
 use Rattle.space.specs.MaxRegionSize.{max_region_size}
 use Rattle.space.specs.Allocate.{allocation_of}
 use Rattle.opened.specs.Opening.{nodes_in, free_space_of, disc_of}
-use Rattle.edits.specs.Change.{Change, written, Plan, refused, nothing, change}
-use Rattle.edits.specs.Edits.{table_only, planned, new_number, insert_verdict, plan_insert, Made, stopped, made, make, plan_made, plan_make_directories, file_verdict, relocated, relocate_verdict, plan_move, resized, plan_elsewhere, plan_resize, plan_verdict, plan_tree, plan_image}
+use Rattle.edit_rules.specs.Change.{Change, written_image, Plan, refused, nothing, change}
+use Rattle.edit_rules.specs.Edits.{table_change, plan_behind, new_number, insert_verdict, plan_insert, Made, stopped, made, make, plan_made, plan_make_directories, file_verdict, relocation_change, relocate_verdict, plan_move, resize_change, plan_elsewhere, plan_resize, plan_verdict, plan_tree, plan_image}
 use Rattle.ledger.specs.Ledger.{Ledger, files_before}
-use Rattle.ledger.proofs.Laws.Written.{fst-offset-written, fst-size-written, fst-max-size-written, disc-end-written}
+use Rattle.ledger.proofs.Laws.Written.{fst-offset-written_image, fst-size-written_image, fst-max-size-written_image, disc-end-written_image}
 use Rattle.ledger.proofs.Laws.Files as files-insert
-use Rattle.ledger.specs.Inner.Files.{place_of, files_of}
-use Rattle.ledger.proofs.Laws.Files.{files_in, nonempty-put-in}
-use Rattle.ledger.proofs.Laws.Opened.{Opened, nodes-written}
+use Rattle.ledger.specs.Inner.Files.{own_place, files_of}
+use Rattle.ledger.proofs.Laws.Files.{files_in, nonempty_regions-put-in}
+use Rattle.ledger.proofs.Laws.Opened.{Opened, nodes-written_image}
 use Rattle.ledger.proofs.Laws.Room.{room}
 use Rattle.ledger.proofs.Laws.Kept.{Kept, opened-kept, table-safe, table-spares}
 use Rattle.ledger.proofs.Laws.ProgramKept.{ProgramKept, nothing-done, program-kept}
@@ -50,9 +50,9 @@ module _ (image : List ℕ) (words bytes : ℕ) where
   arrives-refused : (c : Refusal) → Arrives (refused (Err c))
   arrives-refused c e = (refl, nothing-done image, refl)
 
-  pub arrives-planned : (v : Verdict) (p : Plan) → (v ≡ Ok tt → Arrives p) → Arrives (planned v p)
-  arrives-planned (Ok _) p f = f refl
-  arrives-planned (Err c) p f = arrives-refused c
+  pub arrives-plan_behind : (v : Verdict) (p : Plan) → (v ≡ Ok tt → Arrives p) → Arrives (plan_behind v p)
+  arrives-plan_behind (Ok _) p f = f refl
+  arrives-plan_behind (Err c) p f = arrives-refused c
 
   arrives-cond : (a : Bool) (p q : Plan) → (a ≡ true → Arrives p) → (a ≡ false → Arrives q) → Arrives (cond a p q)
   arrives-cond true p q f g = f refl
@@ -64,35 +64,35 @@ module _ (image : List ℕ) (words bytes : ℕ) where
 
     -- ---- only the table is written
 
-    pub on-table : (new : List Node) → IsWellFormed new → nonempty (files_of new) ≡ nonempty (files_in image) → (number : ℕ) → Arrives (change number (table_only new))
+    pub on-table : (new : List Node) → IsWellFormed new → nonempty_regions (files_of new) ≡ nonempty_regions (files_in image) → (number : ℕ) → Arrives (change number (table_change new))
     on-table new wf same number v =
-        let r = room (table_only new) image words bytes o v in
+        let r = room (table_change new) image words bytes o v in
         let s = table-safe w image l K words lent new wf r in
-        let t = nodes-written (table_only new) image s words w lent r.within in
-        let p = program-kept (table_only new) image o s (table-spares w image l K words lent new wf r 0) in
-        let image' : List ℕ = written (table_only new) image in (
+        let t = nodes-written_image (table_change new) image s words w lent r.within in
+        let p = program-kept (table_change new) image o s (table-spares w image l K words lent new wf r 0) in
+        let image' : List ℕ = written_image (table_change new) image in (
           t,
           p,
-          laid_same image image' (disc-end-written (table_only new) image s) (fst-offset-written (table_only new) image s) p.program (length (encode new)) (fst-size-written (table_only new) image s) (fst-max-size-written (table_only new) image s) r.end r.clear (rw t same),
+          laid_same image image' (disc-end-written_image (table_change new) image s) (fst-offset-written_image (table_change new) image s) p.program (length (encode new)) (fst-size-written_image (table_change new) image s) (fst-max-size-written_image (table_change new) image s) r.end r.clear (rw t same),
         )
 
     pub insert-file : (p : ℕ) (nm : List ℕ) → Arrives (plan_insert (λ q. empty_file nm) (nodes_in image) p nm)
     insert-file p nm =
-        arrives-planned (insert_verdict (nodes_in image) p nm) _ (λ v.
+        arrives-plan_behind (insert_verdict (nodes_in image) p nm) _ (λ v.
         on-table (insert_at p (empty_file nm) (nodes_in image)) (inserted-well (nodes_in image) p nm o.well (insertable (nodes_in image) p nm v) (empty_file nm) (omega arith, omega arith) refl)
-        (rw (files-insert.insert-file place_of p nm 0 0 (nodes_in image)) (nonempty-put-in (files_before (new_number (nodes_in image) p) (nodes_in image)) 0 (files_in image))) (new_number (nodes_in image) p))
+        (rw (files-insert.insert-file own_place p nm 0 0 (nodes_in image)) (nonempty_regions-put-in (files_before (new_number (nodes_in image) p) (nodes_in image)) 0 (files_in image))) (new_number (nodes_in image) p))
 
     pub insert-directory : (p : ℕ) (nm : List ℕ) → Arrives (plan_insert (empty_directory nm) (nodes_in image) p nm)
     insert-directory p nm =
         let q : ℕ = new_number (nodes_in image) p in
-        arrives-planned (insert_verdict (nodes_in image) p nm) _ (λ v.
+        arrives-plan_behind (insert_verdict (nodes_in image) p nm) _ (λ v.
         on-table (insert_at p (empty_directory nm q) (nodes_in image)) (inserted-well (nodes_in image) p nm o.well (insertable (nodes_in image) p nm v) (empty_directory nm q) refl refl)
-        (rw (files-insert.insert-directory place_of p nm (suc q) (nodes_in image))) q)
+        (rw (files-insert.insert-directory own_place p nm (suc q) (nodes_in image))) q)
 
     pub make-directories : (from : ℕ) (path : List ℕ) → Arrives (plan_make_directories (nodes_in image) from path)
     unfolding plan_make_directories
     make-directories from path =
-        arrives-planned (refuse (ltb 1024 (length path)) LimitOrMemory (refuse (leb (length (nodes_in image)) from) NoSuchEntry (Ok tt))) _ (λ v.
+        arrives-plan_behind (refuse (ltb 1024 (length path)) LimitOrMemory (refuse (leb (length (nodes_in image)) from) NoSuchEntry (Ok tt))) _ (λ v.
         let v₁ = refuse-passed (ltb 1024 (length path)) LimitOrMemory _ v in
         let v₂ = refuse-passed (leb (length (nodes_in image)) from) NoSuchEntry (Ok tt) v₁.1 in
         go (make (nodes_in image) [] from false (components path)) refl (leb-false _ _ v₂.0))
@@ -100,23 +100,23 @@ module _ (image : List ℕ) (words bytes : ℕ) where
         go : (m : Made) → make (nodes_in image) [] from false (components path) ≡ m → from < length (nodes_in image) → Arrives (plan_made m)
         go (stopped c) q h = arrives-refused c
         go (made new k true) q h = arrives-refused InvalidNameByte
-        go (made new k false) q h = on-table new (made-good (nodes_in image) from (components path) new k o.well h q) (ap nonempty (rw q at (made-same place_of (nodes_in image) from (components path)))) k
+        go (made new k false) q h = on-table new (made-good (nodes_in image) from (components path) new k o.well h q) (ap nonempty_regions (rw q at (made-same own_place (nodes_in image) from (components path)))) k
 
     -- ---- a file's place is changed
 
-    module _ (k : ℕ) (is_file : is_directory (get_or (nodes_in image) k none) ≡ false) where
-      move-to : (new : DiscRegion) → relocate_verdict (free_space_of image) (place_in image k) new ≡ Ok tt → new.offset < 2 ^ 32 → new.size < 2 ^ 32 → Arrives (change k (relocated (nodes_in image) k (place_in image k) new))
+    module _ (k : ℕ) (is_file : is_directory (get_or (nodes_in image) k empty_root) ≡ false) where
+      move-to : (new : DiscRegion) → relocate_verdict (free_space_of image) (place_in image k) new ≡ Ok tt → new.offset < 2 ^ 32 → new.size < 2 ^ 32 → Arrives (change k (relocation_change (nodes_in image) k (place_in image k) new))
       move-to new v ho hn u =
           let p = put-else w image l K words bytes lent k is_file new v ho hn u in
           let f = free-else w image l K words bytes lent k is_file new v in
           (placed-tree w image l K words lent k is_file new f _ p, placed-program w image l K words lent k is_file new f _ p, placed-laid w image l K words lent k is_file new f _ p)
 
       stay : (n : ℕ) → n < 2 ^ 32 → (n ≡ (place_in image k).size → ⊥) → (leb n (place_in image k).size || leb n (max_region_size (place_in image k).offset (place_in image k).size (free_space_of image))) ≡ true →
-          Arrives (change k (resized (nodes_in image) k (place_in image k) n))
+          Arrives (change k (resize_change (nodes_in image) k (place_in image k) n))
       stay n hn d v u =
           let new : DiscRegion = record { offset = (place_in image k).offset; size = n } in
           let free = free-here w image l K words bytes lent k is_file n v in
-          let c : Change = resized (nodes_in image) k (place_in image k) n in
+          let c : Change = resize_change (nodes_in image) k (place_in image k) n in
           let p = resized-placed w image l K words lent k is_file new free refl (small-offset w image l K words bytes lent k is_file n free d) hn (room c image words bytes o u) in
           (placed-tree w image l K words lent k is_file new free c p, placed-program w image l K words lent k is_file new free c p, placed-laid w image l K words lent k is_file new free c p)
 
@@ -124,14 +124,14 @@ module _ (image : List ℕ) (words bytes : ℕ) where
       elsewhere n hn d (Err c) = arrives-refused c
       elsewhere n hn d (Ok r) =
           let new : DiscRegion = record { offset = r.offset; size = n } in
-          arrives-planned (relocate_verdict (free_space_of image) (place_in image k) new) _ (λ v.
+          arrives-plan_behind (relocate_verdict (free_space_of image) (place_in image k) new) _ (λ v.
           move-to new v (omega (arith, o.bounds.small, (free-else w image l K words bytes lent k is_file new v r.offset (omega arith, omega arith)).1)) hn)
 
     pub move : (k to : ℕ) → to < 2 ^ 32 → Arrives (plan_move (free_space_of image) (nodes_in image) k to)
     unfolding plan_move
     move k to h =
         let new : DiscRegion = record { offset = to; size = (place_in image k).size } in
-        arrives-planned (first (file_verdict (nodes_in image) k) (relocate_verdict (free_space_of image) (place_in image k) new)) _ (λ v.
+        arrives-plan_behind (first (file_verdict (nodes_in image) k) (relocate_verdict (free_space_of image) (place_in image k) new)) _ (λ v.
         let v₁ = first-passed (file_verdict (nodes_in image) k) _ v in
         let is_file = is-file (nodes_in image) k v₁.0 in
         move-to k is_file new v₁.1 h (small_size w image l K words bytes lent k is_file))
@@ -141,9 +141,9 @@ module _ (image : List ℕ) (words bytes : ℕ) where
     resize k n h =
         let old : DiscRegion = place_in image k in
         let t : Bool = leb n old.size || leb n (max_region_size old.offset old.size (free_space_of image)) in
-        let in₁ : Plan = change k (resized (nodes_in image) k old n) in
+        let in₁ : Plan = change k (resize_change (nodes_in image) k old n) in
         let in₂ : Plan = plan_elsewhere (nodes_in image) (free_space_of image) k old n (allocation_of 0x8000 n (free_space_of image)) in
-        arrives-planned (file_verdict (nodes_in image) k) _ (λ v.
+        arrives-plan_behind (file_verdict (nodes_in image) k) _ (λ v.
         let is_file = is-file (nodes_in image) k v in
         arrives-cond (eqb n old.size) nothing (cond t in₁ in₂) (λ q u. (refl, nothing-done image, (laid_same image image refl refl refl (fst_size image) refl refl o.bounds.table (λ k i h. (o.places.lie k i h).0) refl, refl)))
         (λ q. arrives-cond t in₁ in₂ (stay k is_file n h (eqb-false n old.size q))

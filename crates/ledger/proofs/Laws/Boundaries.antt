@@ -8,10 +8,10 @@ use Rattle.endian.specs.Bytes.{AllBytes}
 use Rattle.header.specs.Verdicts.{fst_size, fst_max_size}
 use Rattle.space.specs.declared.totals.Totals.{Totals}
 use Rattle.opened.specs.Opening.{table_of}
-use Rattle.edits.specs.Edits.{Edit, insert_file, insert_directory, make_directories, move_file, resize_file, fill_file, rewrite, totals_after}
+use Rattle.edit_rules.specs.Edits.{Edit, insert_file, insert_directory, make_directories, move_file, resize_file, fill_file, rewrite, totals_after}
 use Rattle.ledger.specs.Ledger.{Ledger, files_before, Report}
-use Rattle.ledger.specs.Runs.{Call, HandedOn, accepted_in, AllWithin}
-use Rattle.ledger.specs.Spared.{Spared}
+use Rattle.ledger.specs.Runs.{Call, IsHandedOn, accepted_count, AllWithin}
+use Rattle.ledger.specs.Spared.{IsSpared}
 use Rattle.ledger.specs.Theorem.{WithinMaximum}
 
 -- ---- the lists
@@ -31,10 +31,10 @@ each_within w bytes p start k to n nm path clip t ht hn c = (omega arith, tt, (o
 -- ---- the record
 
 -- LAW: any record is handed on through no call, and through two if the second is handed what the first gives back
-pub handed-none : (t : Totals) (image : List ℕ) → HandedOn t [] image
+pub handed-none : (t : Totals) (image : List ℕ) → IsHandedOn t [] image
 handed-none t image = tt
 
-pub handed-two : (t : Totals) (image : List ℕ) (a b : Edit) (words bytes : ℕ) → HandedOn t (call a t words bytes ∷ call b (totals_after a t image words bytes) words bytes ∷ []) image
+pub handed-two : (t : Totals) (image : List ℕ) (a b : Edit) (words bytes : ℕ) → IsHandedOn t (call a t words bytes ∷ call b (totals_after a t image words bytes) words bytes ∷ []) image
 handed-two t image a b words bytes = (refl, (refl, tt))
 
 -- ---- the files that no accepted edit names: file f, whatever the ledger holds
@@ -44,28 +44,28 @@ report ed ok = record { edit = ed; accepted = ok }
 
 module _ (l : Ledger) (f : ℕ) where
   -- LAW: where there is no edit
-  pub spared-none : Spared [] l f
+  pub spared-none : IsSpared [] l f
   spared-none = tt
 
   -- LAW: by accepted inserts, made directories and rewrites
-  pub spared-unnaming : (p start : ℕ) (nm path : List ℕ) → Spared (report (insert_file p nm) true ∷ report (insert_directory p nm) true ∷ report (make_directories start path) true ∷ report rewrite true ∷ []) l f
+  pub spared-unnaming : (p start : ℕ) (nm path : List ℕ) → IsSpared (report (insert_file p nm) true ∷ report (insert_directory p nm) true ∷ report (make_directories start path) true ∷ report rewrite true ∷ []) l f
   spared-unnaming p start nm path = (λ e. refl, (λ e. refl, (λ e. refl, (λ e. refl, tt))))
 
   -- LAW: by refused edits, though of file f itself
-  pub spared-refused : (k to n : ℕ) (clip : List ℕ) → Spared (report (move_file k to) false ∷ report (resize_file k n) false ∷ report (fill_file k clip) false ∷ []) l f
+  pub spared-refused : (k to n : ℕ) (clip : List ℕ) → IsSpared (report (move_file k to) false ∷ report (resize_file k n) false ∷ report (fill_file k clip) false ∷ []) l f
   spared-refused k to n clip = (λ e. absurd (false≢true e), (λ e. absurd (false≢true e), (λ e. absurd (false≢true e), tt)))
 
   -- LAW: by an accepted move, resize or fill of another file
   pub spared_other : (k to n : ℕ) (clip : List ℕ) → (f ≡ files_before k l.nodes → ⊥) →
-      Spared (report (move_file k to) true ∷ []) l f × Spared (report (resize_file k n) true ∷ []) l f × Spared (report (fill_file k clip) true ∷ []) l f
+      IsSpared (report (move_file k to) true ∷ []) l f × IsSpared (report (resize_file k n) true ∷ []) l f × IsSpared (report (fill_file k clip) true ∷ []) l f
   spared_other k to n clip other =
       let e = ne_eqb f (files_before k l.nodes) other in
       ((λ a. e, tt), (λ a. e, tt), (λ a. e, tt))
 
 -- ---- accepted edits are counted, refused ones not
 
-counted : (a b c : Edit) → accepted_in (report a true ∷ report b false ∷ report c true ∷ []) ≡ 2
-unfolding accepted_in
+counted : (a b c : Edit) → accepted_count (report a true ∷ report b false ∷ report c true ∷ []) ≡ 2
+unfolding accepted_count
 counted a b c = refl
 
 -- ---- the maximum

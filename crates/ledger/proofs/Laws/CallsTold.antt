@@ -1,22 +1,22 @@
 -- What the reports of any list of calls tell holds of every file of the first image: accepted moves, resizes and fills have numbers of files.
 -- Assumes nothing.
-use Rattle.std.specs.Prelude.{Ok, Err}
+use Rattle.std.specs.Prelude.{Ok, Err, is_err}
 use Rattle.refusal.specs.Refusal.{Verdict}
 use Rattle.std.specs.Prelude.{ℕ, ◌≤◌, ◌≡◌, refl, true, false, cond, not, List, [], ◌∷◌, length, get_or}
 use Rattle.std.proofs.Common.{◌∙◌, arith}
 use Rattle.endian.specs.Bytes.{span, AllBytes}
-use Rattle.refusal.specs.Refusal.{is_refused, first}
+use Rattle.refusal.specs.Refusal.{first}
 use Rattle.refusal.specs.Laws.Chains.{first-passed}
-use Rattle.tree.specs.Table.{file, none}
+use Rattle.tree.specs.Table.{file, empty_root}
 use Rattle.tree.specs.Lookup.{is_directory}
 use Rattle.space.specs.declared.region.DiscRegion.{DiscRegion}
 use Rattle.space.specs.declared.totals.Totals.{Totals}
 use Rattle.opened.specs.Opening.{nodes_in, free_space_of, opening}
-use Rattle.edits.specs.Edits.{Edit, insert_file, insert_directory, make_directories, move_file, resize_file, fill_file, rewrite, file_verdict, relocate_verdict, clip_verdict, plan_move, plan_resize, plan_fill, verdict_of, image_after}
-use Rattle.edits.proofs.Laws.Accepted.{accepted}
-use Rattle.ledger.specs.Ledger.{Ledger, files_before, first_ledger, entered, Report, ledger_after}
+use Rattle.edit_rules.specs.Edits.{Edit, insert_file, insert_directory, make_directories, move_file, resize_file, fill_file, rewrite, file_verdict, relocate_verdict, clip_verdict, plan_move, plan_resize, plan_fill, verdict_of, image_after}
+use Rattle.edit_rules.proofs.Laws.Accepted.{accepted}
+use Rattle.ledger.specs.Ledger.{Ledger, files_before, first_ledger, ledger_with, Report, ledger_after}
 use Rattle.ledger.specs.Runs.{Call, reports_of, AllWithin}
-use Rattle.ledger.proofs.Laws.Bare.{kind-bare}
+use Rattle.ledger.proofs.Laws.Bare.{kind-node_without_place}
 use Rattle.ledger.proofs.Laws.Kept.{Kept}
 use Rattle.ledger.proofs.Laws.Placed.{place_in}
 use Rattle.ledger.proofs.Laws.PlaceEdits.{is-file}
@@ -24,19 +24,19 @@ use Rattle.ledger.proofs.Laws.Steps.{step}
 use Rattle.ledger.proofs.Laws.Sequence.{start}
 use Rattle.ledger.proofs.Laws.PlacesAfter.{passed-plan}
 use Rattle.ledger.specs.Spared.{number_after}
-use Rattle.ledger.specs.Inner.Told.{named_in, Given, given_in, least_of, last_of, start_of, of_file, OfFiles}
+use Rattle.ledger.specs.Inner.Told.{is_named_in, Given, given_in, least_of, final_size, start_of, IsOfFile, OfFiles}
 use Rattle.ledger.proofs.Laws.FilesTold.{FileIs, first-told}
 
-accepted-passed : (v : Verdict) → not (is_refused v) ≡ true → v ≡ Ok tt
+accepted-passed : (v : Verdict) → not (is_err v) ≡ true → v ≡ Ok tt
 accepted-passed (Ok _) e = refl
 accepted-passed (Err c) e = let z : ◌≡◌ {A = ℕ} 0 1 = cc in absurd (omega arith)
 
 module _ (w : ℕ) (image : List ℕ) (l : Ledger) (K : Kept w image l) (words bytes : ℕ) where
-  kind-is : (k : ℕ) → file_verdict (nodes_in image) k ≡ Ok tt → is_directory (get_or l.nodes k none) ≡ false
-  kind-is k v = rw (← K.shape) (kind-bare (nodes_in image) k ∙ is-file (nodes_in image) k v)
+  kind-is : (k : ℕ) → file_verdict (nodes_in image) k ≡ Ok tt → is_directory (get_or l.nodes k empty_root) ≡ false
+  kind-is k v = rw (← K.shape) (kind-node_without_place (nodes_in image) k ∙ is-file (nodes_in image) k v)
 
   -- the entry is a file, or it is 16
-  of-file : (totals : Totals) (ed : Edit) → verdict_of ed totals image words bytes ≡ Ok tt → of_file ed l
+  of-file : (totals : Totals) (ed : Edit) → verdict_of ed totals image words bytes ≡ Ok tt → IsOfFile ed l
   unfolding plan_move plan_resize plan_fill
   of-file totals (insert_file p nm) v = tt
   of-file totals (insert_directory p nm) v = tt
@@ -56,7 +56,7 @@ unfolding reports_of
 of-files w [] image l a K = tt
 of-files w (c ∷ calls) image l a K = (
   λ e. of-file w image l K c.words c.bytes c.totals c.edit (accepted-passed (verdict_of c.edit c.totals image c.words c.bytes) e),
-  of-files w calls (image_after c.edit c.totals image c.words c.bytes) (cond (not (is_refused (verdict_of c.edit c.totals image c.words c.bytes))) (entered c.edit l) l) a.2
+  of-files w calls (image_after c.edit c.totals image c.words c.bytes) (cond (not (is_err (verdict_of c.edit c.totals image c.words c.bytes))) (ledger_with c.edit l) l) a.2
       (step w image l K c.words c.bytes a.0 c.totals c.edit a.1),
 )
 
@@ -66,11 +66,11 @@ calls-of-files image w₀ w calls b e h a = of-files w calls image (first_ledger
 
 -- THEOREM: the file with entry number k of the first image, in the ledger after any list of calls
 pub calls-told : (image : List ℕ) (w₀ w : ℕ) (calls : List Call) → AllBytes image → opening image w₀ ≡ Ok tt → w₀ ≤ w → AllWithin w calls →
-    (k : ℕ) (nm : List ℕ) (offset size : ℕ) → get_or (nodes_in image) k none ≡ file nm offset size →
+    (k : ℕ) (nm : List ℕ) (offset size : ℕ) → get_or (nodes_in image) k empty_root ≡ file nm offset size →
     let l : Ledger = first_ledger image in
     let f : ℕ = files_before k (nodes_in image) in
     let reports : List Report = reports_of calls image in
     let gs : List Given = given_in reports l f in
-    FileIs (ledger_after reports l) (number_after reports l f) nm (last_of size gs)
-    (record { place = offset; bytes = start_of (span image offset size) gs; m = least_of size gs; named = named_in reports l f })
+    FileIs (ledger_after reports l) (number_after reports l f) nm (final_size size gs)
+    (record { place = offset; bytes = start_of (span image offset size) gs; m = least_of size gs; named = is_named_in reports l f })
 calls-told image w₀ w calls b e h a k nm offset size q = first-told image (reports_of calls image) k nm offset size q (calls-of-files image w₀ w calls b e h a)

@@ -7,12 +7,12 @@ use Rattle.std.proofs.lemmas.List.{set-get_or}
 use Rattle.endian.specs.Bytes.{put, span, be32, AllBytes}
 use Rattle.endian.specs.Laws.Stored.{put_in, span-put}
 use Rattle.header.specs.Verdicts.{disc_end, table_end}
-use Rattle.tree.specs.Table.{none}
+use Rattle.tree.specs.Table.{empty_root}
 use Rattle.tree.specs.Lookup.{is_directory}
 use Rattle.opened.specs.Opening.{nodes_in, free_space_of, used_of}
-use Rattle.edits.specs.Change.{Plan}
-use Rattle.ledger.specs.Ledger.{History, Ledger, refilled}
-use Rattle.edits.proofs.Laws.Puts.{Fits, put-length, put_all, put-else, put-below, field_below}
+use Rattle.edit_rules.specs.Change.{Plan}
+use Rattle.ledger.specs.Ledger.{History, Ledger, refilled_history}
+use Rattle.edit_rules.proofs.Laws.Puts.{Fits, put-length, put_all, put-else, put-below, field_below}
 use Rattle.ledger.proofs.Laws.Files.{files_in, places_in}
 use Rattle.ledger.proofs.Laws.Apart.{Has, region}
 use Rattle.ledger.proofs.Laws.Histories.{True, SameIn, trues-set}
@@ -33,7 +33,7 @@ pub record Shown (image : List ℕ) (at : ℕ) (clip : List ℕ) : Type 0 where
   pub inside : 0 < length clip → at + length clip ≤ length image
   pub bytes : span image at (length clip) ≡ clip
 
-module _ (w : ℕ) (image : List ℕ) (l : Ledger) (K : Kept w image l) (k : ℕ) (is_file : is_directory (get_or (nodes_in image) k none) ≡ false) (clip : List ℕ) (bytes : AllBytes clip) (long : length clip ≡ (place_in image k).size) where
+module _ (w : ℕ) (image : List ℕ) (l : Ledger) (K : Kept w image l) (k : ℕ) (is_file : is_directory (get_or (nodes_in image) k empty_root) ≡ false) (clip : List ℕ) (bytes : AllBytes clip) (long : length clip ≡ (place_in image k).size) where
   o : Opened image
   o = opened-kept w image l K
 
@@ -93,7 +93,7 @@ module _ (w : ℕ) (image : List ℕ) (l : Ledger) (K : Kept w image l) (k : ℕ
 
   -- ---- the file
 
-  file-clipped : (h : History) → True (with_clip image k clip) (place_in image k) (refilled clip h)
+  file-clipped : (h : History) → True (with_clip image k clip) (place_in image k) (refilled_history clip h)
   file-clipped h = record {
     least = omega arith;
     known = omega arith;
@@ -109,7 +109,7 @@ module _ (w : ℕ) (image : List ℕ) (l : Ledger) (K : Kept w image l) (k : ℕ
       go (x ∷ xs) e = let q : length clip ≡ length (x ∷ xs) = ap length e in span-put image (place_in image k).offset (x ∷ xs) (omega (arith, fits (omega arith)))
 
   -- LAW: the image with the clip over file k
-  pub clipped-kept : (h : History) → Kept w (with_clip image k clip) (record { nodes = l.nodes; histories = set l.histories (number_in image k) (refilled clip h) })
+  pub clipped-kept : (h : History) → Kept w (with_clip image k clip) (record { nodes = l.nodes; histories = set l.histories (number_in image k) (refilled_history clip h) })
   clipped-kept h =
       let r : ℕ = number_in image k in
       let p : region (files_in image) r ≡ place_in image k = place_is w image l K k is_file in
@@ -117,6 +117,6 @@ module _ (w : ℕ) (image : List ℕ) (l : Ledger) (K : Kept w image l) (k : ℕ
         bytes = put_all image (place_in image k).offset clip fits K.bytes bytes;
         opens = opens-same image (with_clip image k clip) alike o w K.opens;
         shape = rw tree-clipped K.shape;
-        trues = rw tree-clipped (rw (set-get_or (files_in image) r no_region) at (trues-set image (with_clip image k clip) r (region (files_in image) r) (refilled clip h) (files_in image) l.histories
+        trues = rw tree-clipped (rw (set-get_or (files_in image) r no_region) at (trues-set image (with_clip image k clip) r (region (files_in image) r) (refilled_history clip h) (files_in image) l.histories
             (λ j d. others_same (suc j) (λ e. d (omega arith))) (rw p (file-clipped h)) K.trues));
       }

@@ -16,12 +16,12 @@ use Rattle.space.specs.MaxRegionSize.{max_region_size}
 use Rattle.space.specs.Used.{no_region}
 use Rattle.space.specs.Laws.GrowthLaws.{table-largest}
 use Rattle.opened.specs.Opening.{table_of, nodes_in, free_space_of, opening, disc_of}
-use Rattle.opened.specs.Inner.Prepared.{OpenImage}
+use Rattle.opened.specs.Inner.Prepared.{IsOpenImage}
 use Rattle.opened.proofs.Laws.OpeningLaws.{opens}
 use Rattle.disc.specs.Calls.{totals_of}
-use Rattle.edits.specs.Change.{table_verdict}
-use Rattle.edits.specs.Edits.{rewrite, plan_of, plan_verdict, verdict_of, image_after}
-use Rattle.edits.proofs.Laws.PlaceTests.{stated-apart}
+use Rattle.edit_rules.specs.Change.{table_verdict}
+use Rattle.edit_rules.specs.Edits.{rewrite, plan_of, plan_verdict, verdict_of, image_after}
+use Rattle.edit_rules.proofs.Laws.PlaceTests.{stated-apart}
 use Rattle.ledger.proofs.Laws.Files.{places_in}
 use Rattle.ledger.proofs.Laws.RecordTells.{own-record}
 use Rattle.ledger.proofs.Laws.Room.{free-places}
@@ -29,7 +29,7 @@ use Rattle.ledger.proofs.Laws.TreeAfter.{arrives}
 
 -- the table is above the maximum, the tree written anew is not, and the working bytes hold it
 module _ (image : List ℕ) (words bytes : ℕ) (b : AllBytes image) (e : opening image words ≡ Ok tt) (above : fst_max_size image < fst_size image) (down : length (encode (nodes_in image)) ≤ fst_max_size image) (held : length (encode (nodes_in image)) ≤ bytes) where
-  o : OpenImage image words
+  o : IsOpenImage image words
   o = opens image words b e
 
   within : limits (nodes_in image) words ≡ Ok tt

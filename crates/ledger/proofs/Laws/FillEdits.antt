@@ -7,21 +7,21 @@ use Rattle.std.proofs.Math.ListN.{get_or-map}
 use Rattle.endian.specs.Bytes.{AllBytes}
 use Rattle.refusal.specs.declared.Refusal.TheVariants.{NotEnoughSpace, NoSuchEntry}
 use Rattle.refusal.specs.Laws.Chains.{refuse-passed, first-passed}
-use Rattle.tree.specs.Table.{Node, file, directory, none}
+use Rattle.tree.specs.Table.{Node, file, directory, empty_root}
 use Rattle.tree.specs.Lookup.{is_directory}
-use Rattle.tree.specs.Insert.{placed, set_place}
+use Rattle.tree.specs.Insert.{node_at_place, set_place}
 use Rattle.tree.proofs.Laws.PlaceLaws.{set_place-at}
 use Rattle.opened.specs.Opening.{nodes_in, free_space_of, used_of, region_of, disc_of}
-use Rattle.edits.specs.Change.{Plan, filled}
-use Rattle.edits.specs.Edits.{resize_file, fill_file, file_verdict, clip_verdict, plan_resize, plan_fill, plan_verdict, plan_tree, plan_image}
-use Rattle.ledger.specs.Ledger.{Ledger, bare, files_before, history_of, refilled, lowered, entered}
-use Rattle.ledger.proofs.Laws.Bare.{before-bare}
+use Rattle.edit_rules.specs.Change.{Plan, filled}
+use Rattle.edit_rules.specs.Edits.{resize_file, fill_file, file_verdict, clip_verdict, plan_resize, plan_fill, plan_verdict, plan_tree, plan_image}
+use Rattle.ledger.specs.Ledger.{Ledger, node_without_place, files_before, history_of, refilled_history, lowered_history, ledger_with}
+use Rattle.ledger.proofs.Laws.Bare.{before-node_without_place}
 use Rattle.ledger.proofs.Laws.Kept.{Kept}
 use Rattle.ledger.proofs.Laws.Placed.{number_in, place_in}
 use Rattle.ledger.proofs.Laws.PlaceEdits.{is-file, file-of, step-resize}
-use Rattle.ledger.proofs.Laws.Plans.{Good, good-planned}
+use Rattle.ledger.proofs.Laws.Plans.{Good, good-plan_behind}
 use Rattle.ledger.proofs.Laws.ProgramKept.{ProgramKept, kept_trans}
-use Rattle.ledger.proofs.Laws.Arrives.{Arrives, arrives-planned, resize}
+use Rattle.ledger.proofs.Laws.Arrives.{Arrives, arrives-plan_behind, resize}
 use Rattle.ledger.proofs.Laws.Layout.{Lays}
 use Rattle.ledger.proofs.Laws.Clipped.{with_clip, Shown, clip-shown, tree-clipped, program-clipped, layout-clipped, used-clipped, free-clipped, clipped-kept}
 
@@ -38,10 +38,10 @@ unfolding set_place
 before-set_place k o n nodes = before-set k nodes _
 
 -- an entry that without its place is a file of n bytes
-bare-file : (x y : Node) (n : ℕ) → is_directory y ≡ false → bare x ≡ placed 0 n (bare y) → (is_directory x ≡ false) × ((region_of x).size ≡ n)
-bare-file (file a o m) (file b p q) n d e = (refl, cc)
-bare-file (directory a m) (file b p q) n d e = let z : ◌≡◌ {A = ℕ} 0 1 = cc in absurd (omega arith)
-bare-file x (directory b q) n d e = let z : ◌≡◌ {A = ℕ} 0 1 = cc in absurd (omega arith)
+node_without_place-file : (x y : Node) (n : ℕ) → is_directory y ≡ false → node_without_place x ≡ node_at_place 0 n (node_without_place y) → (is_directory x ≡ false) × ((region_of x).size ≡ n)
+node_without_place-file (file a o m) (file b p q) n d e = (refl, cc)
+node_without_place-file (directory a m) (file b p q) n d e = let z : ◌≡◌ {A = ℕ} 0 1 = cc in absurd (omega arith)
+node_without_place-file x (directory b q) n d e = let z : ◌≡◌ {A = ℕ} 0 1 = cc in absurd (omega arith)
 
 module _ (w : ℕ) (image : List ℕ) (l : Ledger) (K : Kept w image l) (words bytes : ℕ) (lent : words ≤ w) (k : ℕ) (clip : List ℕ) (b : AllBytes clip) where
   abbrev n : ℕ
@@ -59,42 +59,42 @@ module _ (w : ℕ) (image : List ℕ) (l : Ledger) (K : Kept w image l) (words b
         let t = first-passed (file_verdict (nodes_in image) k) _ v in
         (t.0, omega (arith, ltb-false 0xFFFFFFFF n (refuse-passed (ltb 0xFFFFFFFF n) NotEnoughSpace (Ok tt) t.1).0))
 
-    K' : Kept w image' (entered (resize_file k n) l)
+    K' : Kept w image' (ledger_with (resize_file k n) l)
     K' = step-resize w image l K words bytes lent k n verdicts.1 u
 
     arrived : (nodes_in image' ≡ plan_tree p (nodes_in image)) × ProgramKept image image' × Lays p image image'
     arrived = resize image words bytes w l K lent k n verdicts.1 u
 
     -- the file there has the clip's length
-    there : (is_directory (get_or (nodes_in image') k none) ≡ false) × ((place_in image' k).size ≡ n)
+    there : (is_directory (get_or (nodes_in image') k empty_root) ≡ false) × ((place_in image' k).size ≡ n)
     there =
-        let i : k < length l.nodes = rw (← K.shape) (rw (length-map (nodes_in image) bare) (leb-false (length (nodes_in image)) k (refuse-passed (leb (length (nodes_in image)) k) NoSuchEntry _ verdicts.0).0)) in
-        let a : bare (get_or (nodes_in image') k none) ≡ get_or (set_place k 0 n l.nodes) k none = sym (get_or-map bare (nodes_in image') k none) ∙ ap (λ (xs : List Node). get_or xs k none) K'.shape in
-        let c : get_or l.nodes k none ≡ bare (get_or (nodes_in image) k none) = ap (λ (xs : List Node). get_or xs k none) (sym K.shape) ∙ get_or-map bare (nodes_in image) k none in
-        bare-file (get_or (nodes_in image') k none) (get_or (nodes_in image) k none) n (is-file (nodes_in image) k verdicts.0) (a ∙ set_place-at 0 n k l.nodes i ∙ ap (placed 0 n) c)
+        let i : k < length l.nodes = rw (← K.shape) (rw (length-map (nodes_in image) node_without_place) (leb-false (length (nodes_in image)) k (refuse-passed (leb (length (nodes_in image)) k) NoSuchEntry _ verdicts.0).0)) in
+        let a : node_without_place (get_or (nodes_in image') k empty_root) ≡ get_or (set_place k 0 n l.nodes) k empty_root = sym (get_or-map node_without_place (nodes_in image') k empty_root) ∙ ap (λ (xs : List Node). get_or xs k empty_root) K'.shape in
+        let c : get_or l.nodes k empty_root ≡ node_without_place (get_or (nodes_in image) k empty_root) = ap (λ (xs : List Node). get_or xs k empty_root) (sym K.shape) ∙ get_or-map node_without_place (nodes_in image) k empty_root in
+        node_without_place-file (get_or (nodes_in image') k empty_root) (get_or (nodes_in image) k empty_root) n (is-file (nodes_in image) k verdicts.0) (a ∙ set_place-at 0 n k l.nodes i ∙ ap (node_at_place 0 n) c)
 
     number_is : number_in image' k ≡ files_before k l.nodes
-    number_is = sym (before-bare k (nodes_in image')) ∙ ap (files_before k) K'.shape ∙ before-set_place k 0 n l.nodes
+    number_is = sym (before-node_without_place k (nodes_in image')) ∙ ap (files_before k) K'.shape ∙ before-set_place k 0 n l.nodes
 
-    fill-kept : Kept w (with_clip image' k clip) (entered (fill_file k clip) l)
+    fill-kept : Kept w (with_clip image' k clip) (ledger_with (fill_file k clip) l)
     fill-kept =
-        rw (number_is, set-set l.histories (files_before k l.nodes) (lowered n (history_of l k)) (refilled clip (history_of l k))) at
-        (clipped-kept w image' (entered (resize_file k n) l) K' k there.0 clip b (sym there.1) (history_of l k))
+        rw (number_is, set-set l.histories (files_before k l.nodes) (lowered_history n (history_of l k)) (refilled_history clip (history_of l k))) at
+        (clipped-kept w image' (ledger_with (resize_file k n) l) K' k there.0 clip b (sym there.1) (history_of l k))
 
     -- with the resize's tree
     fill-arrived : (nodes_in (with_clip image' k clip) ≡ nodes_in image') × ProgramKept image (with_clip image' k clip) × Lays p image (with_clip image' k clip)
     fill-arrived = (
-      tree-clipped w image' (entered (resize_file k n) l) K' k there.0 clip b (sym there.1),
-      kept_trans image image' (with_clip image' k clip) arrived.1 (program-clipped w image' (entered (resize_file k n) l) K' k there.0 clip b (sym there.1)),
-      layout-clipped w image' (entered (resize_file k n) l) K' k there.0 clip b (sym there.1) image p arrived.2,
+      tree-clipped w image' (ledger_with (resize_file k n) l) K' k there.0 clip b (sym there.1),
+      kept_trans image image' (with_clip image' k clip) arrived.1 (program-clipped w image' (ledger_with (resize_file k n) l) K' k there.0 clip b (sym there.1)),
+      layout-clipped w image' (ledger_with (resize_file k n) l) K' k there.0 clip b (sym there.1) image p arrived.2,
     )
 
     -- LAW: the file as it is then
-    pub fill_shows : (nm : List ℕ) × (get_or (nodes_in (with_clip image' k clip)) k none ≡ file nm (place_in image' k).offset n) × Shown (with_clip image' k clip) (place_in image' k).offset clip
+    pub fill_shows : (nm : List ℕ) × (get_or (nodes_in (with_clip image' k clip)) k empty_root ≡ file nm (place_in image' k).offset n) × Shown (with_clip image' k clip) (place_in image' k).offset clip
     fill_shows =
-        let x = file-of (get_or (nodes_in image') k none) there.0 in
-        let e : get_or (nodes_in (with_clip image' k clip)) k none ≡ get_or (nodes_in image') k none = ap (λ (xs : List Node). get_or xs k none) fill-arrived.0 in
-        (x.0, e ∙ (rw there.1 at x.1), clip-shown w image' (entered (resize_file k n) l) K' k there.0 clip b (sym there.1))
+        let x = file-of (get_or (nodes_in image') k empty_root) there.0 in
+        let e : get_or (nodes_in (with_clip image' k clip)) k empty_root ≡ get_or (nodes_in image') k empty_root = ap (λ (xs : List Node). get_or xs k empty_root) fill-arrived.0 in
+        (x.0, e ∙ (rw there.1 at x.1), clip-shown w image' (ledger_with (resize_file k n) l) K' k there.0 clip b (sym there.1))
 
     pub fill_is : plan_image (plan_fill (free_space_of image) (nodes_in image) k clip) image ≡ with_clip image' k clip
     unfolding plan_fill
@@ -102,15 +102,15 @@ module _ (w : ℕ) (image : List ℕ) (l : Ledger) (K : Kept w image l) (words b
 
     -- LAW: what is used and what is free are the resize's
     pub fill-used : used_of (plan_image (plan_fill (free_space_of image) (nodes_in image) k clip) image) ≡ used_of image'
-    fill-used = rw fill_is (used-clipped w image' (entered (resize_file k n) l) K' k there.0 clip b (sym there.1))
+    fill-used = rw fill_is (used-clipped w image' (ledger_with (resize_file k n) l) K' k there.0 clip b (sym there.1))
 
     pub fill-free : free_space_of (plan_image (plan_fill (free_space_of image) (nodes_in image) k clip) image) ≡ free_space_of image'
-    fill-free = rw fill_is (free-clipped w image' (entered (resize_file k n) l) K' k there.0 clip b (sym there.1))
+    fill-free = rw fill_is (free-clipped w image' (ledger_with (resize_file k n) l) K' k there.0 clip b (sym there.1))
 
-  pub step-fill : Good w image words bytes (plan_fill (free_space_of image) (nodes_in image) k clip) (entered (fill_file k clip) l)
+  pub step-fill : Good w image words bytes (plan_fill (free_space_of image) (nodes_in image) k clip) (ledger_with (fill_file k clip) l)
   unfolding plan_fill
-  step-fill = good-planned w image words bytes (clip_verdict (nodes_in image) k n) (filled k clip p) _ (λ v u. rw (← (arrived v u).0) (fill-kept v u))
+  step-fill = good-plan_behind w image words bytes (clip_verdict (nodes_in image) k n) (filled k clip p) _ (λ v u. rw (← (arrived v u).0) (fill-kept v u))
 
   pub fill : Arrives image words bytes (plan_fill (free_space_of image) (nodes_in image) k clip)
   unfolding plan_fill
-  fill = arrives-planned image words bytes (clip_verdict (nodes_in image) k n) (filled k clip p) (λ v u. rw (← (arrived v u).0) (fill-arrived v u))
+  fill = arrives-plan_behind image words bytes (clip_verdict (nodes_in image) k n) (filled k clip p) (λ v u. rw (← (arrived v u).0) (fill-arrived v u))

@@ -8,14 +8,14 @@ use native.Mathlib.Omega.{arith}
 use borrow.Author.Tests.{lt-ltb}
 use Rattle.endian.specs.Bytes.{put, AllBytes}
 use Rattle.refusal.specs.Laws.Tests.{lt-or-le}
-use Rattle.tree.specs.Table.{Node, file, none}
+use Rattle.tree.specs.Table.{Node, file, empty_root}
 use Rattle.space.specs.declared.totals.Totals.{Totals}
 use Rattle.window.specs.Window.{new_window, count_of, buffer_of}
 use Rattle.disc.specs.Files.{open_file_answer, entry_answer}
 use Rattle.opened.specs.Opening.{nodes_in, free_space_of, opening}
-use Rattle.edits.specs.Change.{filled}
-use Rattle.edits.specs.Edits.{fill_file, clip_verdict, plan_resize, plan_fill, plan_image, verdict_of, image_after}
-use Rattle.edits.proofs.Laws.Accepted.{accepted}
+use Rattle.edit_rules.specs.Change.{filled}
+use Rattle.edit_rules.specs.Edits.{fill_file, clip_verdict, plan_resize, plan_fill, plan_image, verdict_of, image_after}
+use Rattle.edit_rules.proofs.Laws.Accepted.{accepted}
 use Rattle.ledger.specs.Ledger.{Ledger, first_ledger}
 use Rattle.ledger.specs.Theorem.{ShowsClip, FillReads}
 use Rattle.ledger.proofs.Laws.Kept.{Kept}
@@ -26,12 +26,12 @@ use Rattle.ledger.proofs.Laws.Steps.{step}
 use Rattle.ledger.proofs.Laws.PlacesAfter.{passed-plan}
 
 -- a file that is there is within the table
-file-inside : (nodes : List Node) (k : ℕ) (nm : List ℕ) (o n : ℕ) → get_or nodes k none ≡ file nm o n → k < length nodes
+file-inside : (nodes : List Node) (k : ℕ) (nm : List ℕ) (o n : ℕ) → get_or nodes k empty_root ≡ file nm o n → k < length nodes
 file-inside [] k nm o n e = let z : ◌≡◌ {A = ℕ} 0 1 = cc in absurd (omega arith)
 file-inside (x ∷ xs) zero nm o n e = omega arith
 file-inside (x ∷ xs) (suc k) nm o n e = omega (arith, file-inside xs k nm o n e)
 
-module _ (image : List ℕ) (w k : ℕ) (opens : opening image w ≡ Ok tt) (nm : List ℕ) (at : ℕ) (clip : List ℕ) (lies : get_or (nodes_in image) k none ≡ file nm at (length clip)) (shown : Shown image at clip) where
+module _ (image : List ℕ) (w k : ℕ) (opens : opening image w ≡ Ok tt) (nm : List ℕ) (at : ℕ) (clip : List ℕ) (lies : get_or (nodes_in image) k empty_root ≡ file nm at (length clip)) (shown : Shown image at clip) where
   shows : ShowsClip image w k clip
   unfolding open_file_answer entry_answer
   shows = record {

@@ -5,13 +5,13 @@ use Rattle.refusal.specs.Refusal.{Verdict}
 use Rattle.std.specs.Prelude.{ℕ, ◌+◌, ◌^◌, ◌<◌, ◌≤◌, ◌≡◌, refl, List, length, get_or}
 use Rattle.std.proofs.Common.{◌∙◌, arith}
 use Rattle.endian.specs.Bytes.{put, AllBytes}
-use Rattle.tree.specs.Table.{none}
+use Rattle.tree.specs.Table.{empty_root}
 use Rattle.space.specs.declared.totals.Totals.{Totals}
 use Rattle.opened.specs.Opening.{nodes_in, free_space_of, used_of, region_of, opening, disc_of}
 use Rattle.disc.specs.Calls.{totals_of}
-use Rattle.edits.specs.Change.{filled}
-use Rattle.edits.specs.Edits.{resize_file, fill_file, file_verdict, clip_verdict, plan_resize, plan_fill, plan_of, plan_verdict, plan_image, counted_verdict, verdict_of, image_after, totals_after}
-use Rattle.edits.proofs.Laws.Fills.{fill-verdict, own-size}
+use Rattle.edit_rules.specs.Change.{filled}
+use Rattle.edit_rules.specs.Edits.{resize_file, fill_file, file_verdict, clip_verdict, plan_resize, plan_fill, plan_of, plan_verdict, plan_image, counted_verdict, verdict_of, image_after, totals_after}
+use Rattle.edit_rules.proofs.Laws.Fills.{fill-verdict, own-size}
 use Rattle.ledger.specs.Ledger.{Ledger, first_ledger}
 use Rattle.ledger.proofs.Laws.Kept.{Kept}
 use Rattle.ledger.proofs.Laws.FillEdits.{fill-used, fill-free}
@@ -49,8 +49,8 @@ fill-as-resize t image clip k words bytes b c short = go (opening image words) r
 
 -- THEOREM: a clip of the file's own size, with a record that is the image's and a count that can rise, is accepted with any number of working bytes,
 -- and nothing but the clip is written
-pub own-size-filled : (image clip : List ℕ) (k words bytes n : ℕ) → AllBytes image → AllBytes clip → opening image words ≡ Ok tt → file_verdict (nodes_in image) k ≡ Ok tt → length clip ≡ (region_of (get_or (nodes_in image) k none)).size → length clip ≤ 0xFFFFFFFF → n + 1 < 2 ^ 32 →
-    (verdict_of (fill_file k clip) (totals_of image n) image words bytes ≡ Ok tt) × (image_after (fill_file k clip) (totals_of image n) image words bytes ≡ put image (region_of (get_or (nodes_in image) k none)).offset clip)
+pub own-size-filled : (image clip : List ℕ) (k words bytes n : ℕ) → AllBytes image → AllBytes clip → opening image words ≡ Ok tt → file_verdict (nodes_in image) k ≡ Ok tt → length clip ≡ (region_of (get_or (nodes_in image) k empty_root)).size → length clip ≤ 0xFFFFFFFF → n + 1 < 2 ^ 32 →
+    (verdict_of (fill_file k clip) (totals_of image n) image words bytes ≡ Ok tt) × (image_after (fill_file k clip) (totals_of image n) image words bytes ≡ put image (region_of (get_or (nodes_in image) k empty_root)).offset clip)
 unfolding image_after
 own-size-filled image clip k words bytes n b c o f e h l =
     let s = own-size image words bytes k clip f e h in

@@ -6,8 +6,8 @@ use Rattle.endian.specs.Laws.Stored.{get_d-span}
 use Rattle.tree.specs.Table.{Node, file, directory}
 use Rattle.space.specs.declared.region.DiscRegion.{DiscRegion}
 use Rattle.space.specs.Used.{no_region}
-use Rattle.ledger.specs.Ledger.{History, new_history, lowered, put_in, first_histories}
-use Rattle.edits.proofs.Laws.Puts.{span-length}
+use Rattle.ledger.specs.Ledger.{History, new_history, lowered_history, put_in, first_histories}
+use Rattle.edit_rules.proofs.Laws.Puts.{span-length}
 use Rattle.ledger.specs.Inner.Files.{pick, files_of}
 use Rattle.ledger.proofs.Laws.Apart.{Has, region}
 
@@ -73,9 +73,9 @@ trues-length image (x ∷ fs) [] t = absurd t
 trues-length image (x ∷ fs) (h ∷ hs) t = ap suc (trues-length image fs hs t.1)
 
 -- a named file at another place or of another size, where the smaller of both sizes of its bytes came along
-pub true-lowered : (image image' : List ℕ) (x y : DiscRegion) (h : History) → ((i : ℕ) → i < min x.size y.size → get_or image' (y.offset + i) 0 ≡ get_or image (x.offset + i) 0) →
-    True image x h → True image' y (lowered y.size h)
-true-lowered image image' x y h s t = record {
+pub true-lowered_history : (image image' : List ℕ) (x y : DiscRegion) (h : History) → ((i : ℕ) → i < min x.size y.size → get_or image' (y.offset + i) 0 ≡ get_or image (x.offset + i) 0) →
+    True image x h → True image' y (lowered_history y.size h)
+true-lowered_history image image' x y h s t = record {
   least = omega arith;
   known = omega (arith, t.known);
   same = λ i l. s i (omega (arith, t.least)) ∙ t.same i (omega arith);

@@ -11,25 +11,25 @@ use Rattle.endian.specs.Bytes.{AllBytes}
 use Rattle.refusal.specs.declared.Refusal.TheVariants.{LimitOrMemory, NoSuchEntry}
 use Rattle.refusal.specs.Refusal.{refuse}
 use Rattle.refusal.specs.Laws.Chains.{refuse-passed}
-use Rattle.tree.specs.Table.{Node, name_of, none}
+use Rattle.tree.specs.Table.{Node, name_of, empty_root}
 use Rattle.tree.specs.Lookup.{is_directory, components, lookup}
 use Rattle.tree.specs.Insert.{insert_at, empty_file, empty_directory}
 use Rattle.tree.proofs.Laws.InsertedList.{IsNested, Fresh, well-nested}
 use Rattle.space.specs.declared.totals.Totals.{Totals}
 use Rattle.opened.specs.Opening.{nodes_in, opening, disc_of}
-use Rattle.edits.specs.Change.{Plan, change}
-use Rattle.edits.specs.Edits.{insert_file, insert_directory, make_directories, table_only, new_number, insert_verdict, Made, stopped, made, make, plan_made, plan_make_directories, plan_verdict, plan_tree, verdict_of, image_after, plan_number, plan_of, numbered_as, Edit}
-use Rattle.edits.proofs.Laws.Accepted.{accepted}
+use Rattle.edit_rules.specs.Change.{Plan, change}
+use Rattle.edit_rules.specs.Edits.{insert_file, insert_directory, make_directories, table_change, new_number, insert_verdict, Made, stopped, made, make, plan_made, plan_make_directories, plan_verdict, plan_tree, verdict_of, image_after, plan_number, plan_of, number_behind, Edit}
+use Rattle.edit_rules.proofs.Laws.Accepted.{accepted}
 use Rattle.ledger.specs.Ledger.{made_nodes}
 use Rattle.ledger.proofs.Laws.Opened.{opened}
 use Rattle.ledger.proofs.Laws.TreeAfter.{tree-after}
 use Rattle.ledger.proofs.Laws.PlacesAfter.{passed-plan}
-use Rattle.edits.proofs.Laws.MakeNumber.{made_found}
-use Rattle.edits.proofs.Laws.InsertNumber.{new-entry, new-found, new-from-root}
+use Rattle.edit_rules.proofs.Laws.MakeNumber.{made_found}
+use Rattle.edit_rules.proofs.Laws.InsertNumber.{new-entry, new-found, new-from-root}
 
 -- what the edits that give an entry's number answer
 abbrev answer_of : Edit → Totals → List ℕ → ℕ → ℕ → Result ℕ Refusal
-answer_of ed totals image words bytes = numbered_as (verdict_of ed totals image words bytes) (plan_number (plan_of ed (disc_of image)))
+answer_of ed totals image words bytes = number_behind (verdict_of ed totals image words bytes) (plan_number (plan_of ed (disc_of image)))
 
 -- what an insert of `new` below p, which answered so, leaves in the image
 pub record Inserted (image after : List ℕ) (answer : Result ℕ Refusal) (p : ℕ) (new : Node) : Type 0 where
@@ -38,7 +38,7 @@ pub record Inserted (image after : List ℕ) (answer : Result ℕ Refusal) (p : 
   -- the new entry was put in as the last child, and nothing else is changed
   pub tree : nodes_in after ≡ insert_at p new (nodes_in image)
   -- the entry with that number is the new one
-  pub entry : get_or (nodes_in after) number none ≡ new
+  pub entry : get_or (nodes_in after) number empty_root ≡ new
   -- its name, from the parent, leads to it
   pub found : lookup (nodes_in after) p (name_of new) ≡ Ok number
   -- and so does every path that led to the parent from the root, with the name behind it
@@ -52,7 +52,7 @@ pub record MadeFrom (image after : List ℕ) (answer : Result ℕ Refusal) (star
   pub tree : nodes_in after ≡ made_nodes (nodes_in image) (make (nodes_in image) [] start false (components path))
   -- the path leads to that number, and a directory is there
   pub found : lookup (nodes_in after) start path ≡ Ok number
-  pub kind : is_directory (get_or (nodes_in after) number none) ≡ true
+  pub kind : is_directory (get_or (nodes_in after) number empty_root) ≡ true
 
 module _ (totals : Totals) (image : List ℕ) (words bytes : ℕ) (b : AllBytes image) where
   nested : opening image words ≡ Ok tt → IsNested (nodes_in image)
@@ -77,7 +77,7 @@ module _ (totals : Totals) (image : List ℕ) (words bytes : ℕ) (b : AllBytes 
       Inserted image (image_after (insert_file p nm) totals image words bytes) (answer_of (insert_file p nm) totals image words bytes) p (empty_file nm)
   inserted-file p nm v =
       let o = accepted (insert_file p nm) totals image words bytes v in
-      let t = passed-plan (insert_verdict (nodes_in image) p nm) (change (new_number (nodes_in image) p) (table_only (insert_at p (empty_file nm) (nodes_in image)))) image words bytes o.own in
+      let t = passed-plan (insert_verdict (nodes_in image) p nm) (change (new_number (nodes_in image) p) (table_change (insert_at p (empty_file nm) (nodes_in image)))) image words bytes o.own in
       inserted (image_after (insert_file p nm) totals image words bytes) _ p (empty_file nm) o.opens t.0 (omega arith, omega arith) (rw (v, t.2))
       (tree-after (insert_file p nm) totals image words bytes b tt v ∙ ap (λ (x : Plan). plan_tree x (nodes_in image)) t.2)
 
@@ -87,7 +87,7 @@ module _ (totals : Totals) (image : List ℕ) (words bytes : ℕ) (b : AllBytes 
   inserted-directory p nm v =
       let q : ℕ = new_number (nodes_in image) p in
       let o = accepted (insert_directory p nm) totals image words bytes v in
-      let t = passed-plan (insert_verdict (nodes_in image) p nm) (change q (table_only (insert_at p (empty_directory nm q) (nodes_in image)))) image words bytes o.own in
+      let t = passed-plan (insert_verdict (nodes_in image) p nm) (change q (table_change (insert_at p (empty_directory nm q) (nodes_in image)))) image words bytes o.own in
       inserted (image_after (insert_directory p nm) totals image words bytes) _ p (empty_directory nm q) o.opens t.0 refl (rw (v, t.2))
       (tree-after (insert_directory p nm) totals image words bytes b tt v ∙ ap (λ (x : Plan). plan_tree x (nodes_in image)) t.2)
 

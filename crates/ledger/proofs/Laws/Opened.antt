@@ -7,16 +7,16 @@ use Rattle.refusal.specs.declared.Refusal.TheVariants.{EntryPastTable, Unrecogni
 use Rattle.refusal.specs.Laws.Chains.{refuse-passed, first-passed}
 use Rattle.header.specs.Verdicts.{disc_end, table_end}
 use Rattle.header.specs.Laws.FieldTests.{GoodHeader, Bounded, header-passes, bounds-pass}
-use Rattle.tree.specs.Table.{Node, kind, count, entries_verdict, unended, check, limits}
+use Rattle.tree.specs.Table.{Node, kind, count, entries_verdict, is_unended, check, limits}
 use Rattle.tree.specs.Inner.WellFormed.{IsWellFormed}
 use Rattle.tree.proofs.Laws.RoundTrip.{within-limits, limits-within, written-accepted, written-reads}
 use Rattle.space.specs.Used.{used_regions}
-use Rattle.space.specs.Layout.{disjoint_below}
+use Rattle.space.specs.Layout.{are_disjoint_below}
 use Rattle.executable.specs.Program.{program_of, program_verdict, program_in, program_behind}
-use Rattle.opened.specs.Opening.{table_of, nodes_in, behind_table, used_in, layout_verdict, opening}
+use Rattle.opened.specs.Opening.{table_of, nodes_in, regions_behind_table, used_in, layout_verdict, opening}
 use Rattle.opened.proofs.Laws.OpeningLaws.{opens, table-accepted}
-use Rattle.edits.specs.Change.{Change, written}
-use Rattle.ledger.proofs.Laws.Written.{new_end, Safe, header-written, bounds-written, table-written, fst-offset-written, fst-size-written, disc-end-written}
+use Rattle.edit_rules.specs.Change.{Change, written_image}
+use Rattle.ledger.proofs.Laws.Written.{new_end, Safe, header-written_image, bounds-written_image, table-written_image, fst-offset-written_image, fst-size-written_image, disc-end-written_image}
 use Rattle.ledger.specs.Inner.Files.{files_of}
 use Rattle.ledger.proofs.Laws.Files.{places_in, used-files}
 use Rattle.ledger.proofs.Laws.Apart.{Apart, apart_from}
@@ -26,12 +26,12 @@ pub record Opened (image : List ℕ) : Type 0 where
   pub bounds : Bounded image
   pub well : IsWellFormed (nodes_in image)
   pub program : program_verdict (program_of image) ≡ Ok tt
-  pub regions : disjoint_below (disc_end image) (used_in image) ≡ true
+  pub regions : are_disjoint_below (disc_end image) (used_in image) ≡ true
   pub places : Apart (table_end image) (disc_end image) (places_in image)
 
 -- LAW: what opening accepts
 pub opened : (image : List ℕ) (w : ℕ) → opening image w ≡ Ok tt → AllBytes image → Opened image
-unfolding used_in behind_table nodes_in
+unfolding used_in regions_behind_table nodes_in
 opened image w e b =
     let o = opens image w b e in
     record {
@@ -44,7 +44,7 @@ opened image w e b =
     }
 
 -- LAW: and what it must accept
-pub opening-passes : (image : List ℕ) (w : ℕ) → GoodHeader image → Bounded image → check (table_of image) w ≡ Ok tt → program_verdict (program_of image) ≡ Ok tt → disjoint_below (disc_end image) (used_in image) ≡ true → opening image w ≡ Ok tt
+pub opening-passes : (image : List ℕ) (w : ℕ) → GoodHeader image → Bounded image → check (table_of image) w ≡ Ok tt → program_verdict (program_of image) ≡ Ok tt → are_disjoint_below (disc_end image) (used_in image) ≡ true → opening image w ≡ Ok tt
 unfolding opening layout_verdict
 opening-passes image w g b c p d = rw (header-passes image g, bounds-pass image b, c, p, d)
 
@@ -59,7 +59,7 @@ other-check tab w w' h e =
     let e₃ = refuse-passed (eqb (kind tab 0) 0) RootIsNotDirectory _ e₂.1 in
     let e₄ = refuse-passed (ltb 16384 c) LimitOrMemory _ e₃.1 in
     let e₅ = first-passed (entries_verdict tab 1 (c - 1)) _ e₄.1 in
-    let e₆ = refuse-passed (unended tab c) MissingNullTerminator _ e₅.1 in
+    let e₆ = refuse-passed (is_unended tab c) MissingNullTerminator _ e₅.1 in
     let e₇ = refuse-passed (ltb 1048576 (length tab - 12 * c)) LimitOrMemory _ e₆.1 in
     let e₈ = refuse-passed (ltb w (4 * (c + 2))) LimitOrMemory _ e₇.1 in
     let r : 4 * (c + 2) ≤ w = ltb-false _ _ e₈.0 in
@@ -86,14 +86,14 @@ more-limits nodes w w' h e =
 
 module _ (c : Change) (image : List ℕ) (s : Safe c image) (words w : ℕ) (h : words ≤ w) (l : limits c.nodes words ≡ Ok tt) where
   -- LAW: the image afterwards has the tree that was written
-  pub nodes-written : nodes_in (written c image) ≡ c.nodes
+  pub nodes-written_image : nodes_in (written_image c image) ≡ c.nodes
   unfolding nodes_in
-  nodes-written = rw (table-written c image s) (written-reads c.nodes words s.well l)
+  nodes-written_image = rw (table-written_image c image s) (written-reads c.nodes words s.well l)
 
   -- LAW: and opens, if its program is the same and the files lie apart
-  pub opens-written : program_verdict (program_of image) ≡ Ok tt → program_of (written c image) ≡ program_of image →
-      disjoint_below (disc_end image) (used_regions (new_end c image) (program_behind image ∷ files_of c.nodes)) ≡ true → opening (written c image) w ≡ Ok tt
-  unfolding used_in behind_table program_in
-  opens-written p q d =
-      opening-passes (written c image) w (header-written c image s) (bounds-written c image s) (rw (table-written c image s) (written-accepted c.nodes w s.well (more-limits c.nodes words w h l))) (rw q p)
-      (rw (nodes-written, fst-offset-written c image s, fst-size-written c image s, disc-end-written c image s, q, used-files (new_end c image) (program_behind image) c.nodes) d)
+  pub opens-written_image : program_verdict (program_of image) ≡ Ok tt → program_of (written_image c image) ≡ program_of image →
+      are_disjoint_below (disc_end image) (used_regions (new_end c image) (program_behind image ∷ files_of c.nodes)) ≡ true → opening (written_image c image) w ≡ Ok tt
+  unfolding used_in regions_behind_table program_in
+  opens-written_image p q d =
+      opening-passes (written_image c image) w (header-written_image c image s) (bounds-written_image c image s) (rw (table-written_image c image s) (written-accepted c.nodes w s.well (more-limits c.nodes words w h l))) (rw q p)
+      (rw (nodes-written_image, fst-offset-written_image c image s, fst-size-written_image c image s, disc-end-written_image c image s, q, used-files (new_end c image) (program_behind image) c.nodes) d)

@@ -16,7 +16,7 @@ use Rattle.refusal.specs.declared.Refusal.TheVariants.{NoSuchEntry}
 use Rattle.refusal.specs.Refusal.{first}
 use Rattle.refusal.specs.Laws.Chains.{refuse-passed, first-passed}
 use Rattle.refusal.specs.Laws.Tests.{or_cases, or-false}
-use Rattle.tree.specs.Table.{Node, file, none}
+use Rattle.tree.specs.Table.{Node, file, empty_root}
 use Rattle.tree.specs.Insert.{set_place}
 use Rattle.tree.proofs.Laws.PlaceLaws.{set_place-at, set_place-other}
 use Rattle.space.specs.declared.region.DiscRegion.{DiscRegion}
@@ -26,15 +26,15 @@ use Rattle.space.specs.Laws.AllocateLaws.{found-region}
 use Rattle.header.specs.Verdicts.{disc_end}
 use Rattle.space.specs.declared.totals.Totals.{Totals}
 use Rattle.opened.specs.Opening.{nodes_in, used_in, free_space_of, region_of, disc_of}
-use Rattle.edits.specs.Change.{Plan, nothing, change, filled}
-use Rattle.edits.specs.Edits.{move_file, resize_file, fill_file, planned, file_verdict, relocated, relocate_verdict, plan_move, resized, plan_elsewhere, clip_verdict, plan_resize, plan_fill, plan_verdict, plan_tree, verdict_of, image_after}
-use Rattle.edits.proofs.Laws.Accepted.{accepted}
+use Rattle.edit_rules.specs.Change.{Plan, nothing, change, filled}
+use Rattle.edit_rules.specs.Edits.{move_file, resize_file, fill_file, plan_behind, file_verdict, relocation_change, relocate_verdict, plan_move, resize_change, plan_elsewhere, clip_verdict, plan_resize, plan_fill, plan_verdict, plan_tree, verdict_of, image_after}
+use Rattle.edit_rules.proofs.Laws.Accepted.{accepted}
 use Rattle.ledger.proofs.Laws.TreeAfter.{tree-after}
 
 -- entry k of the tree afterwards is a file at this place, and every other entry is as it was
 pub record PlacedAt (image after : List ℕ) (k : ℕ) (nm : List ℕ) (offset size : ℕ) : Type 0 where
-  pub lies : get_or (nodes_in after) k none ≡ file nm offset size
-  pub others : (j : ℕ) → (j ≡ k → ⊥) → get_or (nodes_in after) j none ≡ get_or (nodes_in image) j none
+  pub lies : get_or (nodes_in after) k empty_root ≡ file nm offset size
+  pub others : (j : ℕ) → (j ≡ k → ⊥) → get_or (nodes_in after) j empty_root ≡ get_or (nodes_in image) j empty_root
 
 -- the file afterwards, where it has n bytes
 pub record ResizedTo (image after : List ℕ) (k : ℕ) (nm : List ℕ) (offset size n : ℕ) : Type 0 where
@@ -48,7 +48,7 @@ pub record ResizedTo (image after : List ℕ) (k : ℕ) (nm : List ℕ) (offset 
   pub multiple : size < n → max_region_size offset size (free_space_of image) < n → (j : ℕ) × (at ≡ j * 0x8000)
 
 -- a plan behind tests that passes
-pub passed-plan : (v : Verdict) (p : Plan) (image : List ℕ) (words bytes : ℕ) → plan_verdict (planned v p) (disc_of image) words bytes ≡ Ok tt → (v ≡ Ok tt) × (plan_verdict p (disc_of image) words bytes ≡ Ok tt) × (planned v p ≡ p)
+pub passed-plan : (v : Verdict) (p : Plan) (image : List ℕ) (words bytes : ℕ) → plan_verdict (plan_behind v p) (disc_of image) words bytes ≡ Ok tt → (v ≡ Ok tt) × (plan_verdict p (disc_of image) words bytes ≡ Ok tt) × (plan_behind v p ≡ p)
 passed-plan (Ok _) p image words bytes e = (refl, e, refl)
 passed-plan (Err c) p image words bytes e = let z : ◌≡◌ {A = ℕ} 0 1 = cc in absurd (omega arith)
 
@@ -56,12 +56,12 @@ file-number : (nodes : List Node) (k : ℕ) → file_verdict nodes k ≡ Ok tt �
 file-number nodes k v = leb-false _ _ (refuse-passed (leb (length nodes) k) NoSuchEntry _ v).0
 
 -- a file put where it is
-same_place : (nodes : List Node) (k : ℕ) (nm : List ℕ) (o n : ℕ) → get_or nodes k none ≡ file nm o n → set_place k o n nodes ≡ nodes
+same_place : (nodes : List Node) (k : ℕ) (nm : List ℕ) (o n : ℕ) → get_or nodes k empty_root ≡ file nm o n → set_place k o n nodes ≡ nodes
 unfolding set_place
-same_place nodes k nm o n e = rw e (rw e at (set-get_or nodes k none))
+same_place nodes k nm o n e = rw e (rw e at (set-get_or nodes k empty_root))
 
-module _ (totals : Totals) (image : List ℕ) (words bytes : ℕ) (b : AllBytes image) (k : ℕ) (nm : List ℕ) (offset size : ℕ) (here : get_or (nodes_in image) k none ≡ file nm offset size) where
-  place_is : region_of (get_or (nodes_in image) k none) ≡ record { offset = offset; size = size }
+module _ (totals : Totals) (image : List ℕ) (words bytes : ℕ) (b : AllBytes image) (k : ℕ) (nm : List ℕ) (offset size : ℕ) (here : get_or (nodes_in image) k empty_root ≡ file nm offset size) where
+  place_is : region_of (get_or (nodes_in image) k empty_root) ≡ record { offset = offset; size = size }
   place_is = rw here
 
   placed_at : (after : List ℕ) (o n : ℕ) → k < length (nodes_in image) → nodes_in after ≡ set_place k o n (nodes_in image) → PlacedAt image after k nm o n
@@ -74,10 +74,10 @@ module _ (totals : Totals) (image : List ℕ) (words bytes : ℕ) (b : AllBytes 
   pub moved : (to : ℕ) → to < 2 ^ 32 → verdict_of (move_file k to) totals image words bytes ≡ Ok tt → PlacedAt image (image_after (move_file k to) totals image words bytes) k nm to size
   unfolding plan_move
   moved to h v =
-      let old : DiscRegion = region_of (get_or (nodes_in image) k none) in
+      let old : DiscRegion = region_of (get_or (nodes_in image) k empty_root) in
       let new : DiscRegion = record { offset = to; size = old.size } in
       let t = first (file_verdict (nodes_in image) k) (relocate_verdict (free_space_of image) old new) in
-      let p = passed-plan t (change k (relocated (nodes_in image) k old new)) image words bytes (accepted (move_file k to) totals image words bytes v).own in
+      let p = passed-plan t (change k (relocation_change (nodes_in image) k old new)) image words bytes (accepted (move_file k to) totals image words bytes v).own in
       let e : nodes_in (image_after (move_file k to) totals image words bytes) ≡ set_place k to size (nodes_in image) =
       tree-after (move_file k to) totals image words bytes b h v ∙ ap (λ (x : Plan). plan_tree x (nodes_in image)) p.2 ∙ rw here in
       placed_at (image_after (move_file k to) totals image words bytes) to size (file-number (nodes_in image) k (first-passed (file_verdict (nodes_in image) k) _ p.0).0) e
@@ -112,8 +112,8 @@ module _ (totals : Totals) (image : List ℕ) (words bytes : ℕ) (b : AllBytes 
     }
 
     by_cases : (a : Bool) → eqb n size ≡ a → (t : Bool) → (leb n size || leb n (max_region_size offset size (free_space_of image))) ≡ t → (al : Result DiscRegion Refusal) → allocation_of 0x8000 n (free_space_of image) ≡ al →
-        plan_verdict (cond a nothing (cond t (change k (resized (nodes_in image) k old n)) (plan_elsewhere (nodes_in image) (free_space_of image) k old n al))) (disc_of image) words bytes ≡ Ok tt →
-        nodes_in after ≡ plan_tree (cond a nothing (cond t (change k (resized (nodes_in image) k old n)) (plan_elsewhere (nodes_in image) (free_space_of image) k old n al))) (nodes_in image) →
+        plan_verdict (cond a nothing (cond t (change k (resize_change (nodes_in image) k old n)) (plan_elsewhere (nodes_in image) (free_space_of image) k old n al))) (disc_of image) words bytes ≡ Ok tt →
+        nodes_in after ≡ plan_tree (cond a nothing (cond t (change k (resize_change (nodes_in image) k old n)) (plan_elsewhere (nodes_in image) (free_space_of image) k old n al))) (nodes_in image) →
         ResizedTo image after k nm offset size n
     by_cases true e t u al q v w =
         let n≡ : n ≡ size = eqb-true n size e in
@@ -122,7 +122,7 @@ module _ (totals : Totals) (image : List ℕ) (words bytes : ℕ) (b : AllBytes 
     by_cases false e false u (Err c) q v w = let z : ◌≡◌ {A = ℕ} 0 1 = cc in absurd (omega arith)
     by_cases false e false u (Ok r) q v w =
         let new : DiscRegion = record { offset = r.offset; size = n } in
-        let p = passed-plan (relocate_verdict (free_space_of image) old new) (change k (relocated (nodes_in image) k old new)) image words bytes v in
+        let p = passed-plan (relocate_verdict (free_space_of image) old new) (change k (relocation_change (nodes_in image) k old new)) image words bytes v in
         let o = or-false (leb n size) _ u in
         away r q (leb-false n size o.0) (leb-false n _ o.1) (w ∙ ap (λ (x : Plan). plan_tree x (nodes_in image)) p.2)
 

@@ -5,8 +5,8 @@ use Rattle.std.specs.Prelude.{ℕ, ◌≡◌, refl, Bool, true, false, cond, Lis
 use Rattle.std.proofs.Common.{arith}
 use Rattle.refusal.specs.declared.Refusal.{Refusal}
 use Rattle.opened.specs.Opening.{disc_of}
-use Rattle.edits.specs.Change.{Plan, refused}
-use Rattle.edits.specs.Edits.{planned, plan_verdict, plan_image}
+use Rattle.edit_rules.specs.Change.{Plan, refused}
+use Rattle.edit_rules.specs.Edits.{plan_behind, plan_verdict, plan_image}
 use Rattle.ledger.specs.Ledger.{Ledger}
 use Rattle.ledger.proofs.Laws.Kept.{Kept}
 
@@ -15,9 +15,9 @@ module _ (w : ℕ) (image : List ℕ) (words bytes : ℕ) where
   abbrev pub Good : Plan → Ledger → Type 0
   Good p l' = plan_verdict p (disc_of image) words bytes ≡ Ok tt → Kept w (plan_image p image) l'
 
-  pub good-planned : (v : Verdict) (p : Plan) (l' : Ledger) → (v ≡ Ok tt → Good p l') → Good (planned v p) l'
-  good-planned (Ok _) p l' f = f refl
-  good-planned (Err c) p l' f = λ e. let z : ◌≡◌ {A = ℕ} 0 1 = cc in absurd (omega arith)
+  pub good-plan_behind : (v : Verdict) (p : Plan) (l' : Ledger) → (v ≡ Ok tt → Good p l') → Good (plan_behind v p) l'
+  good-plan_behind (Ok _) p l' f = f refl
+  good-plan_behind (Err c) p l' f = λ e. let z : ◌≡◌ {A = ℕ} 0 1 = cc in absurd (omega arith)
 
   pub good-refused : (c : Refusal) (l' : Ledger) → Good (refused (Err c)) l'
   good-refused c l' = λ e. let z : ◌≡◌ {A = ℕ} 0 1 = cc in absurd (omega arith)

@@ -1,10 +1,9 @@
 -- After any list of calls the program is that of the first image: its offset, its region and every byte of it. Assumes nothing.
-use Rattle.std.specs.Prelude.{Ok}
+use Rattle.std.specs.Prelude.{Ok, is_err}
 use Rattle.std.specs.Prelude.{ℕ, ◌+◌, ◌-◌, ◌<◌, ◌≤◌, ◌≡◌, cond, not, List, [], ◌∷◌, length}
 use Rattle.std.proofs.Common.{sym, ◌∙◌, ⊎_elim, arith, ext_get_or}
 use Rattle.endian.specs.Bytes.{span}
 use Rattle.endian.specs.Laws.Stored.{length-span, get_d-span}
-use Rattle.refusal.specs.Refusal.{is_refused}
 use Rattle.header.specs.Verdicts.{fst_offset}
 use Rattle.space.specs.declared.region.DiscRegion.{DiscRegion}
 use Rattle.space.specs.Used.{end_of}
@@ -12,8 +11,8 @@ use Rattle.executable.specs.Program.{program_of, program_in}
 use Rattle.executable.specs.Laws.ProgramLaws.{Accepted, absent, present, accepted, own-cases}
 use Rattle.opened.specs.Opening.{opening}
 use Rattle.disc.specs.Calls.{program_answer}
-use Rattle.edits.specs.Edits.{verdict_of, image_after}
-use Rattle.ledger.specs.Ledger.{Ledger, entered}
+use Rattle.edit_rules.specs.Edits.{verdict_of, image_after}
+use Rattle.ledger.specs.Ledger.{Ledger, ledger_with}
 use Rattle.ledger.specs.Runs.{Call, image_after_all, AllWithin}
 use Rattle.ledger.specs.Theorem.{SameProgram}
 use Rattle.ledger.proofs.Laws.Opened.{Opened}
@@ -28,7 +27,7 @@ program-along w [] image l a k = nothing-done image
 program-along w (c ∷ calls) image l a k =
     let next : List ℕ = image_after c.edit c.totals image c.words c.bytes in
     kept_trans image next (image_after_all calls next) (program-after c.edit c.totals image c.words c.bytes k.bytes a.1)
-    (program-along w calls next (cond (not (is_refused (verdict_of c.edit c.totals image c.words c.bytes))) (entered c.edit l) l) a.2 (step w image l k c.words c.bytes a.0 c.totals c.edit a.1))
+    (program-along w calls next (cond (not (is_err (verdict_of c.edit c.totals image c.words c.bytes))) (ledger_with c.edit l) l) a.2 (step w image l k c.words c.bytes a.0 c.totals c.edit a.1))
 
 -- ---- what it comes to
 

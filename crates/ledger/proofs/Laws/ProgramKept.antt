@@ -5,8 +5,8 @@ use Rattle.endian.specs.Laws.Stored.{be32-same}
 use Rattle.header.specs.Verdicts.{fst_offset, dol_offset}
 use Rattle.executable.specs.Program.{program_of, place_of, program_in, program_behind}
 use Rattle.executable.specs.Laws.ProgramLaws.{own-cases, program-same}
-use Rattle.edits.specs.Change.{Change, written}
-use Rattle.ledger.proofs.Laws.Written.{Safe, length-written, header-low, system-written}
+use Rattle.edit_rules.specs.Change.{Change, written_image}
+use Rattle.ledger.proofs.Laws.Written.{Safe, length-written_image, header-low, system-written_image}
 use Rattle.ledger.proofs.Laws.Histories.{SameIn}
 use Rattle.ledger.proofs.Laws.Opened.{Opened}
 
@@ -47,7 +47,7 @@ program-spared image image' o len header system behind = record {
     bytes : SameIn image image' (program_in image)
     bytes i h = ⊎_elim (λ b. system i (omega (arith, b.0)) (omega (arith, b.1))) (λ e. behind i (rw e h)) (own-cases (fst_offset image) (program_in image))
 
-module _ (c : Change) (image : List ℕ) (o : Opened image) (s : Safe c image) (behind : SameIn image (written c image) (program_behind image)) where
+module _ (c : Change) (image : List ℕ) (o : Opened image) (s : Safe c image) (behind : SameIn image (written_image c image) (program_behind image)) where
   -- LAW: wherever the program lies
-  pub program-kept : ProgramKept image (written c image)
-  program-kept = program-spared image (written c image) o (length-written c image s) (header-low c image s) (λ i h. system-written c image s i (omega arith)) behind
+  pub program-kept : ProgramKept image (written_image c image)
+  program-kept = program-spared image (written_image c image) o (length-written_image c image s) (header-low c image s) (λ i h. system-written_image c image s i (omega arith)) behind

@@ -1,21 +1,21 @@
 -- A record that was made of the first image and handed on through any list of calls says what one made afresh of the last image says, and how many
 -- edits were accepted; and with such a record only the count can be a cause of 25. Assumes nothing.
-use Rattle.std.specs.Prelude.{Ok, Err}
+use Rattle.std.specs.Prelude.{Ok, Err, is_err}
 use Rattle.refusal.specs.Refusal.{Verdict}
 use Rattle.std.specs.Prelude.{ℕ, ◌+◌, ◌-◌, ◌^◌, ◌<◌, ◌≡◌, cond, not, List, [], ◌∷◌}
 use Rattle.std.proofs.Math.Path.{refl}
 use Rattle.std.proofs.Common.{ap, ◌∙◌, arith}
 use borrow.Author.Tests.{le-ltb}
 use Rattle.endian.specs.Bytes.{AllBytes}
-use Rattle.refusal.specs.Refusal.{first, is_refused}
+use Rattle.refusal.specs.Refusal.{first}
 use Rattle.space.specs.declared.totals.Totals.{Totals}
-use Rattle.space.specs.Totals.{totals_verdict, totals_moved}
+use Rattle.space.specs.Totals.{totals_verdict, moved_totals}
 use Rattle.opened.specs.Opening.{opening, used_of, disc_of}
 use Rattle.opened.proofs.Laws.OpeningLaws.{disc-filled}
 use Rattle.disc.specs.Calls.{totals_of, record_answer}
-use Rattle.edits.specs.Edits.{Edit, plan_of, plan_verdict, plan_image, counted_verdict, totals_to, verdict_of, image_after, totals_after}
+use Rattle.edit_rules.specs.Edits.{Edit, plan_of, plan_verdict, plan_image, counted_verdict, totals_to, verdict_of, image_after, totals_after}
 use Rattle.ledger.specs.Ledger.{first_ledger}
-use Rattle.ledger.specs.Runs.{Call, image_after_all, reports_of, totals_after_all, HandedOn, accepted_in, Passable}
+use Rattle.ledger.specs.Runs.{Call, image_after_all, reports_of, totals_after_all, IsHandedOn, accepted_count, IsPassable}
 use Rattle.ledger.specs.Theorem.{Tells, RecordTells}
 use Rattle.ledger.proofs.Laws.Opened.{opened}
 use Rattle.ledger.proofs.Laws.Steps.{step-accepted}
@@ -32,30 +32,30 @@ made_of image w t e = go (opening image w) refl
 
 -- from the totals of one image to those of another
 moved_on : (image new : List ℕ) (n : ℕ) → totals_to (totals_of image n) image new ≡ totals_of new (n + 1)
-unfolding totals_moved
+unfolding moved_totals
 moved_on image new n = let q : used_of image + used_of new - used_of image ≡ used_of new = omega arith in rw q
 
 -- LAW: one call, accepted or refused
 call-tells : (c : Call) (image : List ℕ) (n : ℕ) → c.totals ≡ totals_of image n →
     totals_after c.edit c.totals image c.words c.bytes
-    ≡ totals_of (image_after c.edit c.totals image c.words c.bytes) (n + cond (not (is_refused (verdict_of c.edit c.totals image c.words c.bytes))) 1 0)
+    ≡ totals_of (image_after c.edit c.totals image c.words c.bytes) (n + cond (not (is_err (verdict_of c.edit c.totals image c.words c.bytes))) 1 0)
 unfolding totals_after image_after
 call-tells c image n e = go (verdict_of c.edit c.totals image c.words c.bytes)
   where
     go : (v : Verdict) →
-        cond (is_refused v) c.totals (totals_to c.totals image (plan_image (plan_of c.edit (disc_of image)) image))
-        ≡ totals_of (cond (is_refused v) image (plan_image (plan_of c.edit (disc_of image)) image)) (n + cond (not (is_refused v)) 1 0)
+        cond (is_err v) c.totals (totals_to c.totals image (plan_image (plan_of c.edit (disc_of image)) image))
+        ≡ totals_of (cond (is_err v) image (plan_image (plan_of c.edit (disc_of image)) image)) (n + cond (not (is_err v)) 1 0)
     go (Ok _) = rw e (moved_on image (plan_image (plan_of c.edit (disc_of image)) image) n)
     go (Err x) = let z : n + 0 ≡ n = omega arith in rw z e
 
-tells-along : (calls : List Call) (image : List ℕ) (t : Totals) (n : ℕ) → t ≡ totals_of image n → HandedOn t calls image →
-    totals_after_all t calls image ≡ totals_of (image_after_all calls image) (n + accepted_in (reports_of calls image))
-unfolding totals_after_all image_after_all accepted_in reports_of
+tells-along : (calls : List Call) (image : List ℕ) (t : Totals) (n : ℕ) → t ≡ totals_of image n → IsHandedOn t calls image →
+    totals_after_all t calls image ≡ totals_of (image_after_all calls image) (n + accepted_count (reports_of calls image))
+unfolding totals_after_all image_after_all accepted_count reports_of
 tells-along [] image t n e h = let z : n + 0 ≡ n = omega arith in rw z e
 tells-along (c ∷ calls) image t n e h =
-    let one : ℕ = cond (not (is_refused (verdict_of c.edit c.totals image c.words c.bytes))) 1 0 in
+    let one : ℕ = cond (not (is_err (verdict_of c.edit c.totals image c.words c.bytes))) 1 0 in
     let next : List ℕ = image_after c.edit c.totals image c.words c.bytes in
-    let more : ℕ = accepted_in (reports_of calls next) in
+    let more : ℕ = accepted_count (reports_of calls next) in
     let z : n + one + more ≡ n + (one + more) = omega arith in
     tells-along calls next (totals_after c.edit c.totals image c.words c.bytes) (n + one) (call-tells c image n (h.0 ∙ e)) h.1 ∙ ap (λ (k : ℕ). totals_of (image_after_all calls next) k) z
 
@@ -65,7 +65,7 @@ unfolding record_answer
 record-tells image w₀ w t calls b e h a on =
     let m = made_of image w₀ t e in
     let k = along w calls image (first_ledger image) a (start image w₀ w h b m.0) in
-    let z : 0 + accepted_in (reports_of calls image) ≡ accepted_in (reports_of calls image) = omega arith in
+    let z : 0 + accepted_count (reports_of calls image) ≡ accepted_count (reports_of calls image) = omega arith in
     record { totals = tells-along calls image t 0 m.1 on ∙ ap (λ (n : ℕ). totals_of (image_after_all calls image) n) z; afresh = rw k.opens }
 
 -- THEOREM: a record made anew of the last image has the used bytes and the largest region of the one that was handed on, which has counted n edits
@@ -76,7 +76,7 @@ made-anew image w n t new tells e =
 
 -- ---- 25 and a record that is the image's
 
-module _ (image : List ℕ) (words bytes : ℕ) (b : AllBytes image) (e : opening image words ≡ Ok tt) (ed : Edit) (h : Passable ed) where
+module _ (image : List ℕ) (words bytes : ℕ) (b : AllBytes image) (e : opening image words ≡ Ok tt) (ed : Edit) (h : IsPassable ed) where
   abbrev new : List ℕ
   new = plan_image (plan_of ed (disc_of image)) image
 

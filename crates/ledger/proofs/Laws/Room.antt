@@ -9,22 +9,22 @@ use Rattle.header.specs.Verdicts.{fst_offset, fst_size, disc_end, table_end}
 use Rattle.tree.specs.Table.{encode, limits}
 use Rattle.space.specs.declared.region.DiscRegion.{DiscRegion}
 use Rattle.space.specs.Used.{used_regions}
-use Rattle.space.specs.Free.{free_in, free_regions}
+use Rattle.space.specs.Free.{is_free_in, free_regions}
 use Rattle.space.specs.MaxRegionSize.{max_region_size}
 use Rattle.refusal.specs.Laws.Tests.{lt-or-le, or_cases}
 use Rattle.space.specs.Laws.GrowthLaws.{IsLargestSize, table-largest, file-largest, place-free}
 use Rattle.executable.specs.Program.{program_behind}
-use Rattle.opened.specs.Opening.{nodes_in, behind_table, used_in, free_space_of, disc_of}
-use Rattle.edits.specs.Change.{Change, table_verdict}
-use Rattle.edits.specs.Edits.{relocate_verdict, overlaps_itself}
-use Rattle.edits.proofs.Laws.PlaceTests.{PlacePassed, place-passed, in-region}
+use Rattle.opened.specs.Opening.{nodes_in, regions_behind_table, used_in, free_space_of, disc_of}
+use Rattle.edit_rules.specs.Change.{Change, table_verdict}
+use Rattle.edit_rules.specs.Edits.{relocate_verdict, is_overlapping}
+use Rattle.edit_rules.proofs.Laws.PlaceTests.{PlacePassed, place-passed, in-region}
 use Rattle.ledger.proofs.Laws.Written.{new_end}
 use Rattle.ledger.proofs.Laws.Files.{places_in, used-files}
 use Rattle.ledger.proofs.Laws.Apart.{Has, region, free-clear}
 use Rattle.ledger.proofs.Laws.Opened.{Opened}
 
 pub free-places : (image : List ℕ) → free_space_of image ≡ free_regions (disc_end image) (used_regions (table_end image) (places_in image))
-unfolding used_in behind_table
+unfolding used_in regions_behind_table
 free-places image = rw (used-files (table_end image) (program_behind image) (nodes_in image))
 
 -- the first n bytes of a region that has no byte i do not have it either
@@ -48,7 +48,7 @@ module _ (c : Change) (image : List ℕ) (words bytes : ℕ) (o : Opened image) 
   unfolding table_verdict
   tests = place-passed image bytes (length (encode c.nodes)) c.place (first-passed (limits c.nodes words) _ v).1
 
-  largest : IsLargestSize (free_in (used_regions (table_end image) (places_in image))) (disc_end image) (fst_offset image) (fst_size image) (max_region_size (fst_offset image) (fst_size image) (free_space_of image))
+  largest : IsLargestSize (is_free_in (used_regions (table_end image) (places_in image))) (disc_end image) (fst_offset image) (fst_size image) (max_region_size (fst_offset image) (fst_size image) (free_space_of image))
   largest = rw (free-places image) (table-largest (disc_end image) (table_end image) (places_in image) (fst_offset image) (fst_size image) refl)
 
   -- LAW: a new table is within the limits, ends on the disc, and covers no byte of the program or of a file, nor of the edited file's new place
@@ -74,7 +74,7 @@ module _ (image : List ℕ) (o : Opened image) where
   -- LAW: a place elsewhere that passes its tests has a byte of no file, and none of the program
   pub elsewhere : (old new : DiscRegion) → relocate_verdict (free_space_of image) old new ≡ Ok tt → (i : ℕ) → Has new i → (table_end image ≤ i) × (i < disc_end image) × ((k : ℕ) → Has (region (places_in image) k) i → ⊥)
   elsewhere old new v i h =
-      let t = (refuse-passed (overlaps_itself old new) OverlappingMove _ v).1 in
+      let t = (refuse-passed (is_overlapping old new) OverlappingMove _ v).1 in
       let l : new.size ≤ max_region_size new.offset 0 (free_space_of image) = ltb-false _ _ (refuse-passed (ltb (max_region_size new.offset 0 (free_space_of image)) new.size) NotEnoughSpace (Ok tt) t).0 in
       let l' : new.size ≤ max_region_size new.offset 0 (free_regions (disc_end image) (used_regions (table_end image) (places_in image))) = rw (free-places image) at l in
       let p = place-free (disc_end image) (used_regions (table_end image) (places_in image)) new.offset new.size (omega arith) l' in

@@ -1,37 +1,37 @@
 -- What holds at the start, along a list of calls, and what it comes to for the image at its end. Assumes nothing.
-use Rattle.std.specs.Prelude.{Ok}
+use Rattle.std.specs.Prelude.{Ok, is_err}
 use Rattle.std.specs.Prelude.{ℕ, suc, ◌+◌, ◌-◌, ◌<◌, ◌≤◌, ◌≡◌, refl, true, false, cond, not, List, [], ◌∷◌, map, length, get_or, take}
 use Rattle.std.proofs.Common.{sym, ap, ◌∙◌, ext_get_or, get_or-take, length-take-le}
 use native.Mathlib.Omega.{arith}
 use Rattle.endian.specs.Bytes.{span, AllBytes}
 use Rattle.endian.specs.Laws.Stored.{get_d-span}
-use Rattle.refusal.specs.Refusal.{is_refused}
 use Rattle.header.specs.Verdicts.{disc_end, table_end}
-use Rattle.tree.specs.Table.{file, none}
+use Rattle.tree.specs.Table.{file, empty_root}
 use Rattle.tree.specs.Lookup.{is_directory}
 use Rattle.space.specs.declared.region.DiscRegion.{DiscRegion}
-use Rattle.space.specs.Used.{inside, total_size}
-use Rattle.space.specs.Layout.{pairwise_disjoint, end_by, disjoint_below}
+use Rattle.space.specs.Used.{is_inside, total_size}
+use Rattle.space.specs.Layout.{are_pairwise_disjoint, are_below, are_disjoint_below}
 use Rattle.refusal.specs.Laws.Tests.{and_left}
 use Rattle.space.specs.Laws.FreeLaws.{region-ext}
-use Rattle.space.specs.Laws.LayoutLaws.{inside-from, inside-to}
+use Rattle.space.specs.Laws.LayoutLaws.{is_inside-from, is_inside-to}
 use Rattle.space.specs.Listing.{region_row, listing_of, list_after}
 use Rattle.executable.specs.Program.{program_behind}
-use Rattle.opened.specs.Opening.{nodes_in, region_of, behind_table, used_in, used_of, free_space_of, opening}
+use Rattle.opened.specs.Opening.{nodes_in, region_of, regions_behind_table, used_in, used_of, free_space_of, opening}
 use Rattle.opened.proofs.Laws.OpeningLaws.{disc-filled}
 use Rattle.disc.specs.Calls.{totals_answer, free_answer, free_list, free_regions_answer, free_regions_list}
-use Rattle.edits.specs.Edits.{image_after, verdict_of}
-use Rattle.ledger.specs.Ledger.{History, Ledger, files_before, new_history, history_of, first_ledger, entered, ledger_after}
+use Rattle.edit_rules.specs.Edits.{image_after, verdict_of}
+use Rattle.ledger.specs.Ledger.{History, Ledger, files_before, new_history, history_of, first_ledger, ledger_with, ledger_after}
 use Rattle.ledger.specs.Runs.{Call, image_after_all, reports_of, AllWithin}
-use Rattle.edits.proofs.Laws.Puts.{Fits, span-length}
-use Rattle.ledger.specs.Inner.Files.{names_of}
-use Rattle.ledger.proofs.Laws.Files.{files_in, names-bare, files-at, files-count, entry_of}
+use Rattle.edit_rules.proofs.Laws.Puts.{Fits, span-length}
+use Rattle.ledger.specs.Inner.Files.{file_names}
+use Rattle.ledger.proofs.Laws.Files.{files_in, names-node_without_place, files-at, files-count, entry_of}
 use Rattle.ledger.proofs.Laws.Apart.{region, apart_of}
 use Rattle.ledger.proofs.Laws.Histories.{True, trues-at, trues-length, starts}
-use Rattle.ledger.proofs.Laws.Bare.{before-bare}
+use Rattle.ledger.proofs.Laws.Bare.{before-node_without_place}
 use Rattle.ledger.proofs.Laws.Opened.{Opened, opened, more-words}
 use Rattle.ledger.proofs.Laws.Kept.{Kept}
 use Rattle.ledger.proofs.Laws.Steps.{step}
+use Rattle.space.specs.Laws.SizeLaws.{total_size-cons}
 
 -- a file's bytes are in the image
 pub region-fits : (image : List ℕ) → Opened image → (k : ℕ) → Fits image (region (files_in image) k).offset (region (files_in image) k).size
@@ -47,7 +47,7 @@ pub along : (w : ℕ) (calls : List Call) (image : List ℕ) (l : Ledger) → Al
 unfolding image_after_all reports_of ledger_after
 along w [] image l a k = k
 along w (c ∷ calls) image l a k =
-    along w calls (image_after c.edit c.totals image c.words c.bytes) (cond (not (is_refused (verdict_of c.edit c.totals image c.words c.bytes))) (entered c.edit l) l) a.2
+    along w calls (image_after c.edit c.totals image c.words c.bytes) (cond (not (is_err (verdict_of c.edit c.totals image c.words c.bytes))) (ledger_with c.edit l) l) a.2
     (step w image l k c.words c.bytes a.0 c.totals c.edit a.1)
 
 -- ---- what it comes to
@@ -56,15 +56,15 @@ module _ (w : ℕ) (image : List ℕ) (l : Ledger) (k : Kept w image l) where
   o : Opened image
   o = opened image w k.opens k.bytes
 
-  pub no-byte-twice : (i j n : ℕ) → inside (region (used_in image) i) n ≡ true → inside (region (used_in image) j) n ≡ true → i ≡ j
-  unfolding disjoint_below
+  pub no-byte-twice : (i j n : ℕ) → is_inside (region (used_in image) i) n ≡ true → is_inside (region (used_in image) j) n ≡ true → i ≡ j
+  unfolding are_disjoint_below
   no-byte-twice i j n a b =
-      apart_of (used_in image) (and_left (pairwise_disjoint (used_in image)) (end_by (disc_end image) (used_in image)) o.regions) i j n
-      (inside-from (region (used_in image) i) n a, inside-to (region (used_in image) i) n a) (inside-from (region (used_in image) j) n b, inside-to (region (used_in image) j) n b)
+      apart_of (used_in image) (and_left (are_pairwise_disjoint (used_in image)) (are_below (disc_end image) (used_in image)) o.regions) i j n
+      (is_inside-from (region (used_in image) i) n a, is_inside-to (region (used_in image) i) n a) (is_inside-from (region (used_in image) j) n b, is_inside-to (region (used_in image) j) n b)
 
   used-is : used_of image ≡ table_end image + (program_behind image).size + total_size (map region_of (nodes_in image))
-  unfolding used_of behind_table total_size
-  used-is = omega arith
+  unfolding used_of regions_behind_table
+  used-is = omega (arith, total_size-cons (program_behind image) (map region_of (nodes_in image)))
 
   pub sum : table_end image + (program_behind image).size + total_size (map region_of (nodes_in image)) + total_size (free_space_of image) ≡ disc_end image
   sum = rw (← used-is) (disc-filled image w k.bytes k.opens)
@@ -82,7 +82,7 @@ module _ (w : ℕ) (image : List ℕ) (l : Ledger) (k : Kept w image l) where
   free-listed list = rw k.opens
 
   number : (n : ℕ) → files_before n l.nodes ≡ files_before n (nodes_in image)
-  number n = rw (← k.shape) (before-bare n (nodes_in image))
+  number n = rw (← k.shape) (before-node_without_place n (nodes_in image))
 
   -- the f-th file
   module _ (f : ℕ) (h : f < length (files_in image)) where
@@ -110,21 +110,21 @@ module _ (w : ℕ) (image : List ℕ) (l : Ledger) (k : Kept w image l) where
 
   -- the entry of a file whose history and name are still those of one which began at r
   pub still-there : (f : ℕ) (r : DiscRegion) (nm bs : List ℕ) → f < length l.histories → get_or l.histories f new_history ≡ record { place = r.offset; bytes = bs; m = r.size; named = false } →
-      get_or (names_of l.nodes) f [] ≡ nm →
-      (n : ℕ) × (files_before n (nodes_in image) ≡ f) × (get_or (nodes_in image) n none ≡ file nm r.offset r.size) × (span image r.offset r.size ≡ bs)
+      get_or (file_names l.nodes) f [] ≡ nm →
+      (n : ℕ) × (files_before n (nodes_in image) ≡ f) × (get_or (nodes_in image) n empty_root ≡ file nm r.offset r.size) × (span image r.offset r.size ≡ bs)
   still-there f r nm bs h e x =
       let i : f < length (files_in image) = rw (trues-length image (files_in image) l.histories k.trues) at h in
       let z : (get_or l.histories f new_history).named ≡ false = rw e in
       let u = (file-true f i).unnamed z in
       let q : region (files_in image) f ≡ r = region-ext (region (files_in image) f) r (u.0 ∙ rw e) (u.1 ∙ rw e) in
       let c : span image (region (files_in image) f).offset (region (files_in image) f).size ≡ bs = all-bytes f i z ∙ ap (λ (y : History). y.bytes) e in
-      let y : get_or (names_of (nodes_in image)) f [] ≡ nm = ap (λ (ns : List (List ℕ)). get_or ns f []) (sym (names-bare (nodes_in image)) ∙ ap names_of k.shape) ∙ x in
+      let y : get_or (file_names (nodes_in image)) f [] ≡ nm = ap (λ (ns : List (List ℕ)). get_or ns f []) (sym (names-node_without_place (nodes_in image)) ∙ ap file_names k.shape) ∙ x in
       let n = entry_of f (nodes_in image) i in
       (n.0, n.1, rw (q, y) at n.2, rw q at c)
 
   -- the file with entry number n
-  module _ (n : ℕ) (nm : List ℕ) (offset size : ℕ) (e : get_or (nodes_in image) n none ≡ file nm offset size) where
-    is-file : is_directory (get_or (nodes_in image) n none) ≡ false
+  module _ (n : ℕ) (nm : List ℕ) (offset size : ℕ) (e : get_or (nodes_in image) n empty_root ≡ file nm offset size) where
+    is-file : is_directory (get_or (nodes_in image) n empty_root) ≡ false
     is-file = rw e
 
     here : region (files_in image) (files_before n (nodes_in image)) ≡ record { offset = offset; size = size }

@@ -1,15 +1,14 @@
 -- A call keeps image and ledger. Assumes nothing.
-use Rattle.std.specs.Prelude.{Ok, Err}
+use Rattle.std.specs.Prelude.{Ok, Err, is_err}
 use Rattle.refusal.specs.Refusal.{Verdict}
 use Rattle.std.specs.Prelude.{ℕ, ◌≤◌, ◌≡◌, cond, not, List}
 use Rattle.std.proofs.Math.Path.{refl}
-use Rattle.refusal.specs.Refusal.{is_refused}
 use Rattle.space.specs.declared.totals.Totals.{Totals}
 use Rattle.opened.specs.Opening.{disc_of}
-use Rattle.edits.specs.Edits.{Edit, insert_file, insert_directory, make_directories, move_file, resize_file, fill_file, rewrite, plan_of, verdict_of, plan_image, image_after}
-use Rattle.edits.proofs.Laws.Accepted.{accepted}
-use Rattle.ledger.specs.Ledger.{Ledger, entered}
-use Rattle.ledger.specs.Runs.{Passable}
+use Rattle.edit_rules.specs.Edits.{Edit, insert_file, insert_directory, make_directories, move_file, resize_file, fill_file, rewrite, plan_of, verdict_of, plan_image, image_after}
+use Rattle.edit_rules.proofs.Laws.Accepted.{accepted}
+use Rattle.ledger.specs.Ledger.{Ledger, ledger_with}
+use Rattle.ledger.specs.Runs.{IsPassable}
 use Rattle.ledger.proofs.Laws.Kept.{Kept}
 use Rattle.ledger.proofs.Laws.Plans.{Good}
 use Rattle.ledger.proofs.Laws.TableEdits.{step-rewrite, step-insert-directory, step-insert-file, step-make-directories}
@@ -18,7 +17,7 @@ use Rattle.ledger.proofs.Laws.FillEdits.{step-fill}
 
 module _ (w : ℕ) (image : List ℕ) (l : Ledger) (K : Kept w image l) (words bytes : ℕ) (lent : words ≤ w) where
   -- LAW: a plan whose own tests pass keeps what holds
-  pub step-accepted : (ed : Edit) → Passable ed → Good w image words bytes (plan_of ed (disc_of image)) (entered ed l)
+  pub step-accepted : (ed : Edit) → IsPassable ed → Good w image words bytes (plan_of ed (disc_of image)) (ledger_with ed l)
   step-accepted (insert_file p nm) h = step-insert-file w image l K words bytes lent p nm
   step-accepted (insert_directory p nm) h = step-insert-directory w image l K words bytes lent p nm
   step-accepted (make_directories start path) h = step-make-directories w image l K words bytes lent start path
@@ -28,10 +27,10 @@ module _ (w : ℕ) (image : List ℕ) (l : Ledger) (K : Kept w image l) (words b
   step-accepted rewrite h = step-rewrite w image l K words bytes lent
 
   -- LAW: a call keeps what holds; a refused one changes neither image nor ledger
-  pub step : (totals : Totals) (ed : Edit) → Passable ed → Kept w (image_after ed totals image words bytes) (cond (not (is_refused (verdict_of ed totals image words bytes))) (entered ed l) l)
+  pub step : (totals : Totals) (ed : Edit) → IsPassable ed → Kept w (image_after ed totals image words bytes) (cond (not (is_err (verdict_of ed totals image words bytes))) (ledger_with ed l) l)
   unfolding image_after
   step totals ed h = go (verdict_of ed totals image words bytes) refl
     where
-      go : (v : Verdict) → verdict_of ed totals image words bytes ≡ v → Kept w (cond (is_refused v) image (plan_image (plan_of ed (disc_of image)) image)) (cond (not (is_refused v)) (entered ed l) l)
+      go : (v : Verdict) → verdict_of ed totals image words bytes ≡ v → Kept w (cond (is_err v) image (plan_image (plan_of ed (disc_of image)) image)) (cond (not (is_err v)) (ledger_with ed l) l)
       go (Ok _) e = step-accepted ed h (accepted ed totals image words bytes e).own
       go (Err c) e = K

@@ -1,11 +1,11 @@
 -- A worked ledger, by computing: the calls of a list entered one by one. Assumes nothing.
 use Rattle.std.specs.Prelude.{◌≡◌, refl, true, false, List, [], ◌∷◌}
-use Rattle.endian.specs.Bytes.{same_bytes}
+use Rattle.endian.specs.Bytes.{are_same_bytes}
 use Rattle.tree.specs.Units.{units}
-use Rattle.tree.specs.Table.{file, directory, plain, safe, parent_below, parent_of}
+use Rattle.tree.specs.Table.{file, directory, is_plain, is_safe, parent_below, parent_of}
 use Rattle.tree.specs.Lookup.{components_of, components, first_child, child_of}
-use Rattle.tree.specs.Insert.{bump, splice, insert_at, set_place}
-use Rattle.edits.specs.Edits.{insert_file, insert_directory, make_directories, move_file, resize_file, fill_file, rewrite, make}
+use Rattle.tree.specs.Insert.{raised_next, splice, insert_at, set_place}
+use Rattle.edit_rules.specs.Edits.{insert_file, insert_directory, make_directories, move_file, resize_file, fill_file, rewrite, make}
 use Rattle.ledger.specs.Ledger.{Ledger, files_before, put_in, Report, ledger_after}
 
 -- a tree with one file, `a`, which lay at 0x500 and had the bytes 7, 8, 9
@@ -37,5 +37,5 @@ after : ledger_after list before ≡ record {
   nodes = directory [] 5 ∷ file (0x61 ∷ []) 0 3 ∷ directory (0x64 ∷ []) 5 ∷ directory (0x65 ∷ []) 4 ∷ file (0x62 ∷ []) 0 6 ∷ [];
   histories = record { place = 0x500; bytes = 7 ∷ 8 ∷ 9 ∷ []; m = 2; named = true } ∷ record { place = 0; bytes = 1 ∷ 2 ∷ 3 ∷ 4 ∷ []; m = 3; named = true } ∷ [];
 }
-unfolding before list ledger_after files_before put_in insert_at splice bump set_place make components child_of first_child parent_of parent_below same_bytes plain safe components_of units
+unfolding before list ledger_after files_before put_in insert_at splice raised_next set_place make components child_of first_child parent_of parent_below are_same_bytes is_plain is_safe components_of units
 after = refl

@@ -2,14 +2,14 @@
 -- one inserted and grown, one filled, refused calls, directories made; then every field of every file. Assumes nothing.
 use Rattle.std.specs.Prelude.{ℕ, ◌≡◌, refl, true, false, List, [], ◌∷◌, length, get_or, replicate}
 use Rattle.std.proofs.Common.{ap, ◌∙◌}
-use Rattle.endian.specs.Bytes.{be24, be32, be32_bytes, put, same_bytes}
+use Rattle.endian.specs.Bytes.{be24, be32, be32_bytes, put, are_same_bytes}
 use Rattle.header.specs.Fields.{fst_offset_field, fst_size_field}
 use Rattle.tree.specs.Units.{units}
-use Rattle.tree.specs.Table.{file, directory, none, plain, safe, count, name_at, node_at, nodes_from, nodes_of, parent_below, parent_of}
+use Rattle.tree.specs.Table.{file, directory, empty_root, is_plain, is_safe, count, name_at, node_at, nodes_from, nodes_of, parent_below, parent_of}
 use Rattle.tree.specs.Lookup.{components_of, components, first_child, child_of}
-use Rattle.tree.specs.Insert.{bump, splice, insert_at, set_place}
+use Rattle.tree.specs.Insert.{raised_next, splice, insert_at, set_place}
 use Rattle.opened.specs.Opening.{table_of, nodes_in}
-use Rattle.edits.specs.Edits.{insert_file, make_directories, move_file, resize_file, fill_file, rewrite, make}
+use Rattle.edit_rules.specs.Edits.{insert_file, make_directories, move_file, resize_file, fill_file, rewrite, make}
 use Rattle.ledger.specs.Ledger.{Ledger, files_before, history_of, first_histories, first_ledger, put_in, Report, ledger_after}
 
 -- ---- the first image: a directory `d` with the file `x` in it, 4 bytes at 0x4B0, then the file `a`, 3 bytes at 0x4A0
@@ -72,23 +72,23 @@ last = ledger_after list (first_ledger image)
 -- ---- the end: each entry with its kind, name and size (a place is 0), what it is nested in, and each file's history
 
 pub record Worked : Type 0 where
-  pub root : get_or last.nodes 0 none ≡ directory [] 8
-  pub d : (get_or last.nodes 1 none ≡ directory (0x64 ∷ []) 5) × (parent_of last.nodes 1 ≡ 0)
+  pub root : get_or last.nodes 0 empty_root ≡ directory [] 8
+  pub d : (get_or last.nodes 1 empty_root ≡ directory (0x64 ∷ []) 5) × (parent_of last.nodes 1 ≡ 0)
   -- no accepted call named `x`
-  pub x : (get_or last.nodes 2 none ≡ file (0x78 ∷ []) 0 4) × (parent_of last.nodes 2 ≡ 1)
+  pub x : (get_or last.nodes 2 empty_root ≡ file (0x78 ∷ []) 0 4) × (parent_of last.nodes 2 ≡ 1)
   pub x-history : history_of last 2 ≡ record { place = 0x4B0; bytes = 6 ∷ 5 ∷ 4 ∷ 3 ∷ []; m = 4; named = false }
   -- `b` was put in and left alone
-  pub b : (get_or last.nodes 3 none ≡ file (0x62 ∷ []) 0 0) × (parent_of last.nodes 3 ≡ 1)
+  pub b : (get_or last.nodes 3 empty_root ≡ file (0x62 ∷ []) 0 0) × (parent_of last.nodes 3 ≡ 1)
   pub b-history : history_of last 3 ≡ record { place = 0; bytes = []; m = 0; named = false }
-  pub e : (get_or last.nodes 4 none ≡ directory (0x65 ∷ []) 5) × (parent_of last.nodes 4 ≡ 1)
+  pub e : (get_or last.nodes 4 empty_root ≡ directory (0x65 ∷ []) 5) × (parent_of last.nodes 4 ≡ 1)
   -- `a` began with 3 bytes, had 2 once, has 5 now
-  pub a : (get_or last.nodes 5 none ≡ file (0x61 ∷ []) 0 5) × (parent_of last.nodes 5 ≡ 0)
+  pub a : (get_or last.nodes 5 empty_root ≡ file (0x61 ∷ []) 0 5) × (parent_of last.nodes 5 ≡ 0)
   pub a-history : history_of last 5 ≡ record { place = 0x4A0; bytes = 7 ∷ 8 ∷ 9 ∷ []; m = 2; named = true }
   -- `c` was put in and grown
-  pub c : (get_or last.nodes 6 none ≡ file (0x63 ∷ []) 0 1) × (parent_of last.nodes 6 ≡ 0)
+  pub c : (get_or last.nodes 6 empty_root ≡ file (0x63 ∷ []) 0 1) × (parent_of last.nodes 6 ≡ 0)
   pub c-history : history_of last 6 ≡ record { place = 0; bytes = []; m = 0; named = true }
   -- `f` was put in, filled and grown
-  pub f : (get_or last.nodes 7 none ≡ file (0x66 ∷ []) 0 5) × (parent_of last.nodes 7 ≡ 0)
+  pub f : (get_or last.nodes 7 empty_root ≡ file (0x66 ∷ []) 0 5) × (parent_of last.nodes 7 ≡ 0)
   pub f-history : history_of last 7 ≡ record { place = 0; bytes = 1 ∷ 2 ∷ 3 ∷ []; m = 3; named = true }
   -- and there is no more
   pub whole : (length last.nodes ≡ 8) × (length last.histories ≡ 5)
@@ -105,7 +105,7 @@ end = record {
 }
 
 ends : ledger_after list first ≡ end
-unfolding list first ledger_after files_before put_in insert_at splice bump set_place make components child_of first_child parent_of parent_below same_bytes plain safe components_of units
+unfolding list first ledger_after files_before put_in insert_at splice raised_next set_place make components child_of first_child parent_of parent_below are_same_bytes is_plain is_safe components_of units
 ends = refl
 
 after : last ≡ end

@@ -14,8 +14,8 @@ use Rattle.tree.specs.Inner.WellFormed.{IsWellFormed}
 use Rattle.tree.proofs.Laws.WrittenBytes.{encode-all, be32-all, all_append}
 use Rattle.opened.specs.Opening.{table_of}
 use Rattle.opened.proofs.Laws.OpeningLaws.{span-bytes}
-use Rattle.edits.specs.Change.{Change, padded, with_table, written}
-use Rattle.edits.proofs.Laws.Puts.{Fits, put-length, put_all, put-else, span-length, zeros-all}
+use Rattle.edit_rules.specs.Change.{Change, padded_table, image_with_table, written_image}
+use Rattle.edit_rules.proofs.Laws.Puts.{Fits, put-length, put_all, put-else, span-length, zeros-all}
 
 -- the new table's end
 abbrev pub new_end : Change → List ℕ → ℕ
@@ -31,8 +31,8 @@ pub record Safe (c : Change) (image : List ℕ) : Type 0 where
   pub copied : 0 < c.kept → (table_end image ≤ c.place.offset) × (new_end c image ≤ c.place.offset) × (c.place.offset + c.kept ≤ disc_end image) × (c.old.offset + c.kept ≤ disc_end image)
   pub zeroed : 0 < c.lost.size → (table_end image ≤ c.lost.offset) × (new_end c image ≤ c.lost.offset) × (c.lost.offset + c.lost.size ≤ disc_end image)
 
-length-padded : (tab : List ℕ) (n : ℕ) → length (padded tab n) ≡ length tab + (n - length tab)
-length-padded tab n = length-append tab (replicate (n - length tab) 0) ∙ ap (λ (k : ℕ). length tab + k) (length-replicate {A = ℕ} (n - length tab) 0)
+length-padded_table : (tab : List ℕ) (n : ℕ) → length (padded_table tab n) ≡ length tab + (n - length tab)
+length-padded_table tab n = length-append tab (replicate (n - length tab) 0) ∙ ap (λ (k : ℕ). length tab + k) (length-replicate {A = ℕ} (n - length tab) 0)
 
 -- ---- the image after each of the four writes
 
@@ -40,14 +40,14 @@ abbrev image₁ : Change → List ℕ → List ℕ
 image₁ c image = put image c.place.offset (span image c.old.offset c.kept)
 
 abbrev image₂ : Change → List ℕ → List ℕ
-image₂ c image = put (image₁ c image) (fst_offset image) (padded (encode c.nodes) (fst_size image))
+image₂ c image = put (image₁ c image) (fst_offset image) (padded_table (encode c.nodes) (fst_size image))
 
 abbrev image₃ : Change → List ℕ → List ℕ
 image₃ c image = put (image₂ c image) 0x428 (be32_bytes (length (encode c.nodes)))
 
-is-written : (c : Change) (image : List ℕ) → written c image ≡ put (image₃ c image) c.lost.offset (replicate c.lost.size 0)
-unfolding written with_table
-is-written c image = refl
+is-written_image : (c : Change) (image : List ℕ) → written_image c image ≡ put (image₃ c image) c.lost.offset (replicate c.lost.size 0)
+unfolding written_image image_with_table
+is-written_image c image = refl
 
 module _ (c : Change) (image : List ℕ) (s : Safe c image) where
   source_fits : Fits image c.old.offset c.kept
@@ -65,14 +65,14 @@ module _ (c : Change) (image : List ℕ) (s : Safe c image) where
   all₁ : AllBytes (image₁ c image)
   all₁ = put_all image c.place.offset (span image c.old.offset c.kept) fits₁ s.bytes (span-bytes image c.old.offset c.kept s.bytes)
 
-  fits₂ : fst_offset image + length (padded (encode c.nodes) (fst_size image)) ≤ length (image₁ c image)
-  fits₂ = rw length₁ (omega (arith, length-padded (encode c.nodes) (fst_size image), s.table, s.bounds.table, s.bounds.image_holds))
+  fits₂ : fst_offset image + length (padded_table (encode c.nodes) (fst_size image)) ≤ length (image₁ c image)
+  fits₂ = rw length₁ (omega (arith, length-padded_table (encode c.nodes) (fst_size image), s.table, s.bounds.table, s.bounds.image_holds))
 
   length₂ : length (image₂ c image) ≡ length image
-  length₂ = length-put (image₁ c image) (fst_offset image) (padded (encode c.nodes) (fst_size image)) fits₂ ∙ length₁
+  length₂ = length-put (image₁ c image) (fst_offset image) (padded_table (encode c.nodes) (fst_size image)) fits₂ ∙ length₁
 
   all₂ : AllBytes (image₂ c image)
-  all₂ = put-bytes (image₁ c image) (fst_offset image) (padded (encode c.nodes) (fst_size image)) fits₂ all₁
+  all₂ = put-bytes (image₁ c image) (fst_offset image) (padded_table (encode c.nodes) (fst_size image)) fits₂ all₁
       (all_append (encode c.nodes) (replicate (fst_size image - length (encode c.nodes)) 0) (encode-all c.nodes s.well) (zeros-all (fst_size image - length (encode c.nodes))))
 
   fits₃ : 0x428 + 4 ≤ length (image₂ c image)
@@ -92,25 +92,25 @@ module _ (c : Change) (image : List ℕ) (s : Safe c image) where
 
   -- ---- the whole
 
-  pub length-written : length (written c image) ≡ length image
-  length-written = rw (is-written c image) (put-length (image₃ c image) c.lost.offset (replicate c.lost.size 0) fits₄ ∙ length₃)
+  pub length-written_image : length (written_image c image) ≡ length image
+  length-written_image = rw (is-written_image c image) (put-length (image₃ c image) c.lost.offset (replicate c.lost.size 0) fits₄ ∙ length₃)
 
-  pub bytes-written : AllBytes (written c image)
-  bytes-written = rw (is-written c image) (put_all (image₃ c image) c.lost.offset (replicate c.lost.size 0) fits₄ all₃ (zeros-all c.lost.size))
+  pub bytes-written_image : AllBytes (written_image c image)
+  bytes-written_image = rw (is-written_image c image) (put_all (image₃ c image) c.lost.offset (replicate c.lost.size 0) fits₄ all₃ (zeros-all c.lost.size))
 
   -- a byte of the image after each write
   at₁ : (i : ℕ) → (0 < c.kept → Outside c.place.offset c.kept i) → get_or (image₁ c image) i 0 ≡ get_or image i 0
   at₁ i o = put-else image c.place.offset (span image c.old.offset c.kept) fits₁ i (λ h. rw copy-length (o (rw copy-length at h)))
 
   below₂ : (i : ℕ) → i < fst_offset image → get_or (image₂ c image) i 0 ≡ get_or (image₁ c image) i 0
-  below₂ i h = put-before (image₁ c image) (fst_offset image) (padded (encode c.nodes) (fst_size image)) fits₂ i h
+  below₂ i h = put-before (image₁ c image) (fst_offset image) (padded_table (encode c.nodes) (fst_size image)) fits₂ i h
 
   behind₂ : (i : ℕ) → table_end image ≤ i → new_end c image ≤ i → get_or (image₂ c image) i 0 ≡ get_or (image₁ c image) i 0
-  behind₂ i h k = put-after (image₁ c image) (fst_offset image) (padded (encode c.nodes) (fst_size image)) fits₂ i (omega (arith, length-padded (encode c.nodes) (fst_size image)))
+  behind₂ i h k = put-after (image₁ c image) (fst_offset image) (padded_table (encode c.nodes) (fst_size image)) fits₂ i (omega (arith, length-padded_table (encode c.nodes) (fst_size image)))
 
   in₂ : (i : ℕ) → i < length (encode c.nodes) → get_or (image₂ c image) (fst_offset image + i) 0 ≡ get_or (encode c.nodes) i 0
   in₂ i h =
-      put_in (image₁ c image) (fst_offset image) (padded (encode c.nodes) (fst_size image)) fits₂ i (omega (arith, length-padded (encode c.nodes) (fst_size image)))
+      put_in (image₁ c image) (fst_offset image) (padded_table (encode c.nodes) (fst_size image)) fits₂ i (omega (arith, length-padded_table (encode c.nodes) (fst_size image)))
       ∙ get_or-append (encode c.nodes) (replicate (fst_size image - length (encode c.nodes)) 0) 0 i h
 
   below₃ : (i : ℕ) → i < 0x428 → get_or (image₃ c image) i 0 ≡ get_or (image₂ c image) i 0
@@ -119,8 +119,8 @@ module _ (c : Change) (image : List ℕ) (s : Safe c image) where
   behind₃ : (i : ℕ) → 0x42C ≤ i → get_or (image₃ c image) i 0 ≡ get_or (image₂ c image) i 0
   behind₃ i h = put-after (image₂ c image) 0x428 (be32_bytes (length (encode c.nodes))) fits₃ i h
 
-  at₄ : (i : ℕ) → (0 < c.lost.size → Outside c.lost.offset c.lost.size i) → get_or (written c image) i 0 ≡ get_or (image₃ c image) i 0
-  at₄ i o = rw (is-written c image) (put-else (image₃ c image) c.lost.offset (replicate c.lost.size 0) fits₄ i (λ h. rw zeros-length (o (rw zeros-length at h))))
+  at₄ : (i : ℕ) → (0 < c.lost.size → Outside c.lost.offset c.lost.size i) → get_or (written_image c image) i 0 ≡ get_or (image₃ c image) i 0
+  at₄ i o = rw (is-written_image c image) (put-else (image₃ c image) c.lost.offset (replicate c.lost.size 0) fits₄ i (λ h. rw zeros-length (o (rw zeros-length at h))))
 
   -- below the table nothing is copied or zeroed
   not-copied : (i : ℕ) → i < fst_offset image → 0 < c.kept → Outside c.place.offset c.kept i
@@ -131,77 +131,77 @@ module _ (c : Change) (image : List ℕ) (s : Safe c image) where
 
   -- ---- the header
 
-  pub header-low : (i : ℕ) → i < 0x428 → get_or (written c image) i 0 ≡ get_or image i 0
+  pub header-low : (i : ℕ) → i < 0x428 → get_or (written_image c image) i 0 ≡ get_or image i 0
   header-low i h =
       let l : i < fst_offset image = omega (arith, s.bounds.after-header) in
       at₄ i (not-zeroed i (omega arith)) ∙ below₃ i h ∙ below₂ i l ∙ at₁ i (not-copied i l)
 
   -- and what lies between it and the table
-  pub system-written : (i : ℕ) → 0x42C ≤ i → i < fst_offset image → get_or (written c image) i 0 ≡ get_or image i 0
-  system-written i h l = at₄ i (not-zeroed i (omega arith)) ∙ behind₃ i h ∙ below₂ i l ∙ at₁ i (not-copied i l)
+  pub system-written_image : (i : ℕ) → 0x42C ≤ i → i < fst_offset image → get_or (written_image c image) i 0 ≡ get_or image i 0
+  system-written_image i h l = at₄ i (not-zeroed i (omega arith)) ∙ behind₃ i h ∙ below₂ i l ∙ at₁ i (not-copied i l)
 
-  pub field-low : (at : ℕ) → at + 4 ≤ 0x428 → be32 (written c image) at ≡ be32 image at
-  field-low at h = be32-same (written c image) image at (λ i l. header-low (at + i) (omega arith))
+  pub field-low : (at : ℕ) → at + 4 ≤ 0x428 → be32 (written_image c image) at ≡ be32 image at
+  field-low at h = be32-same (written_image c image) image at (λ i l. header-low (at + i) (omega arith))
 
-  pub field-high : (at : ℕ) → 0x42C ≤ at → at + 4 ≤ 0x440 → be32 (written c image) at ≡ be32 image at
-  field-high at h k = be32-same (written c image) image at (λ i l. system-written (at + i) (omega arith) (omega (arith, s.bounds.after-header)))
+  pub field-high : (at : ℕ) → 0x42C ≤ at → at + 4 ≤ 0x440 → be32 (written_image c image) at ≡ be32 image at
+  field-high at h k = be32-same (written_image c image) image at (λ i l. system-written_image (at + i) (omega arith) (omega (arith, s.bounds.after-header)))
 
-  pub fst-offset-written : fst_offset (written c image) ≡ fst_offset image
-  fst-offset-written = field-low 0x424 (omega arith)
+  pub fst-offset-written_image : fst_offset (written_image c image) ≡ fst_offset image
+  fst-offset-written_image = field-low 0x424 (omega arith)
 
-  pub disc-end-written : disc_end (written c image) ≡ disc_end image
-  disc-end-written = rw (field-high 0x434 (omega arith) (omega arith), field-high 0x438 (omega arith) (omega arith))
+  pub disc-end-written_image : disc_end (written_image c image) ≡ disc_end image
+  disc-end-written_image = rw (field-high 0x434 (omega arith) (omega arith), field-high 0x438 (omega arith) (omega arith))
 
   -- the FST maximum is never written
-  pub fst-max-size-written : fst_max_size (written c image) ≡ fst_max_size image
-  fst-max-size-written = field-high 0x42C (omega arith) (omega arith)
+  pub fst-max-size-written_image : fst_max_size (written_image c image) ≡ fst_max_size image
+  fst-max-size-written_image = field-high 0x42C (omega arith) (omega arith)
 
   small : length (encode c.nodes) < 2 ^ 32
   small = omega (arith, s.table, s.bounds.small)
 
-  pub fst-size-written : fst_size (written c image) ≡ length (encode c.nodes)
-  fst-size-written =
-      be32-same (written c image) (image₃ c image) 0x428 (λ i l. at₄ (0x428 + i) (not-zeroed (0x428 + i) (omega (arith, s.bounds.after-header))))
+  pub fst-size-written_image : fst_size (written_image c image) ≡ length (encode c.nodes)
+  fst-size-written_image =
+      be32-same (written_image c image) (image₃ c image) 0x428 (λ i l. at₄ (0x428 + i) (not-zeroed (0x428 + i) (omega (arith, s.bounds.after-header))))
       ∙ be32-put (image₂ c image) 0x428 (length (encode c.nodes)) fits₃ small
 
-  pub header-written : GoodHeader (written c image)
-  header-written = record {
-    whole = rw length-written s.header.whole;
+  pub header-written_image : GoodHeader (written_image c image)
+  header-written_image = record {
+    whole = rw length-written_image s.header.whole;
     not-wii = λ e. s.header.not-wii (sym (field-low 0x18 (omega arith)) ∙ e);
     is-gcn = field-low 0x1C (omega arith) ∙ s.header.is-gcn;
   }
 
-  pub bounds-written : Bounded (written c image)
-  bounds-written = record {
-    after-header = rw fst-offset-written s.bounds.after-header;
-    small = rw disc-end-written s.bounds.small;
-    table = rw (fst-offset-written, fst-size-written, disc-end-written) s.table;
-    image_holds = rw (disc-end-written, length-written) s.bounds.image_holds;
+  pub bounds-written_image : Bounded (written_image c image)
+  bounds-written_image = record {
+    after-header = rw fst-offset-written_image s.bounds.after-header;
+    small = rw disc-end-written_image s.bounds.small;
+    table = rw (fst-offset-written_image, fst-size-written_image, disc-end-written_image) s.table;
+    image_holds = rw (disc-end-written_image, length-written_image) s.bounds.image_holds;
   }
 
   -- ---- the table
 
-  table_at : (i : ℕ) → i < length (encode c.nodes) → get_or (written c image) (fst_offset image + i) 0 ≡ get_or (encode c.nodes) i 0
+  table_at : (i : ℕ) → i < length (encode c.nodes) → get_or (written_image c image) (fst_offset image + i) 0 ≡ get_or (encode c.nodes) i 0
   table_at i h =
       at₄ (fst_offset image + i) (not-zeroed (fst_offset image + i) (omega arith)) ∙ behind₃ (fst_offset image + i) (omega (arith, s.bounds.after-header)) ∙ in₂ i h
 
-  pub table-written : table_of (written c image) ≡ encode c.nodes
+  pub table-written_image : table_of (written_image c image) ≡ encode c.nodes
   unfolding table_of
-  table-written =
+  table-written_image =
       let n : ℕ = length (encode c.nodes) in
-      let e : length (span (written c image) (fst_offset image) n) ≡ n = length-span (written c image) (fst_offset image) n (rw length-written (omega (arith, s.table, s.bounds.image_holds))) in
-      rw (fst-offset-written, fst-size-written)
-      (ext_get_or 0 (span (written c image) (fst_offset image) n) (encode c.nodes) e
-      (λ i h. let h' : i < n = rw e at h in get_d-span (written c image) (fst_offset image) n i h' ∙ table_at i h'))
+      let e : length (span (written_image c image) (fst_offset image) n) ≡ n = length-span (written_image c image) (fst_offset image) n (rw length-written_image (omega (arith, s.table, s.bounds.image_holds))) in
+      rw (fst-offset-written_image, fst-size-written_image)
+      (ext_get_or 0 (span (written_image c image) (fst_offset image) n) (encode c.nodes) e
+      (λ i h. let h' : i < n = rw e at h in get_d-span (written_image c image) (fst_offset image) n i h' ∙ table_at i h'))
 
   -- ---- behind the tables
 
-  pub rest-written : (i : ℕ) → table_end image ≤ i → new_end c image ≤ i → (0 < c.kept → Outside c.place.offset c.kept i) → (0 < c.lost.size → Outside c.lost.offset c.lost.size i) →
-      get_or (written c image) i 0 ≡ get_or image i 0
-  rest-written i h k p l = at₄ i l ∙ behind₃ i (omega (arith, s.bounds.after-header)) ∙ behind₂ i h k ∙ at₁ i p
+  pub rest-written_image : (i : ℕ) → table_end image ≤ i → new_end c image ≤ i → (0 < c.kept → Outside c.place.offset c.kept i) → (0 < c.lost.size → Outside c.lost.offset c.lost.size i) →
+      get_or (written_image c image) i 0 ≡ get_or image i 0
+  rest-written_image i h k p l = at₄ i l ∙ behind₃ i (omega (arith, s.bounds.after-header)) ∙ behind₂ i h k ∙ at₁ i p
 
   pub copy_written : (i : ℕ) → i < c.kept → (0 < c.lost.size → Outside c.lost.offset c.lost.size (c.place.offset + i)) →
-      get_or (written c image) (c.place.offset + i) 0 ≡ get_or image (c.old.offset + i) 0
+      get_or (written_image c image) (c.place.offset + i) 0 ≡ get_or image (c.old.offset + i) 0
   copy_written i h l =
       let z : 0 < c.kept = omega arith in
       let t : table_end image ≤ c.place.offset = (s.copied z).0 in

@@ -9,14 +9,14 @@ pick g [] = []
 pick g (file nm offset size ∷ xs) = g nm offset size ∷ pick g xs
 pick g (directory nm next ∷ xs) = pick g xs
 
-abbrev pub place_of : List ℕ → ℕ → ℕ → DiscRegion
-place_of nm offset size = record { offset = offset; size = size }
+abbrev pub own_place : List ℕ → ℕ → ℕ → DiscRegion
+own_place nm offset size = record { offset = offset; size = size }
 
 abbrev pub files_of : List Node → List DiscRegion
-files_of xs = pick place_of xs
+files_of xs = pick own_place xs
 
 abbrev pub own_name : List ℕ → ℕ → ℕ → List ℕ
 own_name nm offset size = nm
 
-abbrev pub names_of : List Node → List (List ℕ)
-names_of xs = pick own_name xs
+abbrev pub file_names : List Node → List (List ℕ)
+file_names xs = pick own_name xs

@@ -1,7 +1,7 @@
 -- The directories around an entry, as the functions inside keep them.
 -- Assumes nothing: these are definitions.
 use Rattle.std.specs.Prelude.{ℕ, ◌+◌, ◌-◌, ◌<◌, ◌≤◌, ◌≡◌, true, List, length, slice_index, slice_index_or}
-use Rattle.tree.specs.Table.{Node, none, parent_below, parent_of}
+use Rattle.tree.specs.Table.{Node, empty_root, parent_below, parent_of}
 use Rattle.tree.specs.Lookup.{is_directory}
 use Rattle.listing.specs.declared.entries.Directories.{Directories}
 
@@ -12,7 +12,7 @@ pub record Chain (nodes : List Node) (dirs : List ℕ) (d k : ℕ) : Type 0 wher
   pub few : d ≤ 65
   pub root : slice_index dirs 0 ≡ 0
   pub before : (i : ℕ) → i < d → slice_index dirs i < k
-  pub directories : (i : ℕ) → i < d → is_directory (slice_index_or nodes (slice_index dirs i) none) ≡ true
+  pub directories : (i : ℕ) → i < d → is_directory (slice_index_or nodes (slice_index dirs i) empty_root) ≡ true
   pub nested : (i : ℕ) → i + 1 < d → (0 < slice_index dirs (i + 1)) × (parent_of nodes (slice_index dirs (i + 1)) ≡ slice_index dirs i)
 
 -- entry k's parent is the last of d directories, or one around that
@@ -25,9 +25,9 @@ pub record Ends (nodes : List Node) (dirs : List ℕ) (d k : ℕ) : Type 0 where
   pub last : parent_of nodes k ≡ slice_index dirs (d - 1)
 
 -- entry k is nested in the last of the directories, or in one around that
-abbrev pub Before : List Node → Directories → ℕ → Type 0
-Before nodes around k = Chain nodes around.numbers around.depth k × Climbs nodes around.numbers around.depth k
+abbrev pub IsBefore : List Node → Directories → ℕ → Type 0
+IsBefore nodes around k = Chain nodes around.numbers around.depth k × Climbs nodes around.numbers around.depth k
 
 -- the directories are those around entry k
-abbrev pub Around : List Node → Directories → ℕ → Type 0
-Around nodes around k = Ends nodes around.numbers around.depth k
+abbrev pub IsAround : List Node → Directories → ℕ → Type 0
+IsAround nodes around k = Ends nodes around.numbers around.depth k

@@ -5,7 +5,7 @@ use Rattle.refusal.specs.declared.Refusal.{Refusal}
 use Rattle.refusal.specs.declared.Refusal.TheVariants.{LimitOrMemory}
 use Rattle.space.specs.Used.{total_size}
 use Rattle.opened.specs.Opening.{Disc, free_of}
-use Rattle.listing.specs.Lines.{totals_line, entry_lines, region_lines}
+use Rattle.listing.specs.Lines.{totals_line, lines_below, lines_of_regions}
 
 -- how long it is, if there is room for it
 abbrev pub size_or : ℕ → List ℕ → Option ℕ
@@ -29,5 +29,5 @@ pub record IsLaid (text text' : List ℕ) (size : Option ℕ) (bs : List ℕ) : 
   pub text_after : text' ≡ laid_or text bs
 
 -- the lines of a disc
-unfoldable pub text_of : Disc → List ℕ
-text_of d = totals_line d.end (total_size d.used) ++ (entry_lines d.nodes (length d.nodes) ++ region_lines (free_of d))
+unfoldable pub disc_text : Disc → List ℕ
+disc_text d = totals_line d.end (total_size d.used) ++ (lines_below d.nodes (length d.nodes) ++ lines_of_regions (free_of d))

@@ -7,9 +7,9 @@ use Rattle.std.specs.Option.{option_map, option_or}
 use Rattle.refusal.specs.Laws.Tests.{and_left, and_right, and_both, lt-or-le}
 use Rattle.header.specs.Verdicts.{disc_end}
 use Rattle.space.specs.declared.region.DiscRegion.{DiscRegion}
-use Rattle.space.specs.Used.{end_of, nonempty}
-use Rattle.space.specs.Layout.{disjoint, disjoint_from_all, pairwise_disjoint, end_by, disjoint_below}
-use Rattle.space.specs.Laws.UsedLaws.{nonempty-cons, nonempty-empty}
+use Rattle.space.specs.Used.{end_of, nonempty_regions}
+use Rattle.space.specs.Layout.{are_disjoint, is_disjoint_from_all, are_pairwise_disjoint, are_below, are_disjoint_below}
+use Rattle.space.specs.Laws.UsedLaws.{nonempty_regions-cons, nonempty_regions-empty}
 use Rattle.opened.specs.Opening.{used_in}
 use Rattle.opened.specs.Faults.{owner_at, owned_regions, conflict_with, first_conflict}
 use Rattle.opened.specs.declared.faults.About.{About}
@@ -43,56 +43,56 @@ both_none (Some x) b h = cc
 
 -- ---- one region
 
-clear : (e : ℕ) (before : List DiscRegion) (r : DiscRegion) → conflict_with e before r ≡ None → ((nat_lt 0 r.size && nat_lt e (end_of r)) ≡ false) × (list_all (λ x. disjoint x r) before ≡ true)
+clear : (e : ℕ) (before : List DiscRegion) (r : DiscRegion) → conflict_with e before r ≡ None → ((nat_lt 0 r.size && nat_lt e (end_of r)) ≡ false) × (list_all (λ x. are_disjoint x r) before ≡ true)
 unfolding conflict_with
-clear e before r h = go (nat_lt 0 r.size && nat_lt e (end_of r)) refl (position_from (λ x. not (disjoint x r)) 0 before) refl h
+clear e before r h = go (nat_lt 0 r.size && nat_lt e (end_of r)) refl (position_from (λ x. not (are_disjoint x r)) 0 before) refl h
   where
-    go : (t : Bool) → (nat_lt 0 r.size && nat_lt e (end_of r)) ≡ t → (o : Option ℕ) → position_from (λ x. not (disjoint x r)) 0 before ≡ o →
+    go : (t : Bool) → (nat_lt 0 r.size && nat_lt e (end_of r)) ≡ t → (o : Option ℕ) → position_from (λ x. not (are_disjoint x r)) 0 before ≡ o →
         (if t then Some (about.PastEnd (owner_at (length before))) else option_map (λ j. about.Shared (owner_at j) (owner_at (length before))) o) ≡ None →
-        ((nat_lt 0 r.size && nat_lt e (end_of r)) ≡ false) × (list_all (λ x. disjoint x r) before ≡ true)
+        ((nat_lt 0 r.size && nat_lt e (end_of r)) ≡ false) × (list_all (λ x. are_disjoint x r) before ≡ true)
     go true t≡ o o≡ q = cc
     go false t≡ (Some j) o≡ q = cc
-    go false t≡ None o≡ q = (t≡, none-apart (λ x. disjoint x r) 0 before o≡)
+    go false t≡ None o≡ q = (t≡, none-apart (λ x. are_disjoint x r) 0 before o≡)
 
 -- ---- all of them: those before are apart from the rest, the rest from each other, and none passes the end
 
 record Clear (e : ℕ) (before rs : List DiscRegion) : Type 0 where
-  apart : list_all (λ x. disjoint_from_all x (nonempty rs)) before ≡ true
-  pairs : pairwise_disjoint (nonempty rs) ≡ true
-  ends : end_by e (nonempty rs) ≡ true
+  apart : list_all (λ x. is_disjoint_from_all x (nonempty_regions rs)) before ≡ true
+  pairs : are_pairwise_disjoint (nonempty_regions rs) ≡ true
+  ends : are_below e (nonempty_regions rs) ≡ true
 
-all_apart : (xs : List DiscRegion) → list_all (λ x. disjoint_from_all x (nonempty [])) xs ≡ true
-unfolding disjoint_from_all nonempty
+all_apart : (xs : List DiscRegion) → list_all (λ x. is_disjoint_from_all x (nonempty_regions [])) xs ≡ true
+unfolding is_disjoint_from_all nonempty_regions
 all_apart [] = refl
 all_apart (x ∷ xs) = all_apart xs
 
 all-clear : (e : ℕ) (before rs : List DiscRegion) → first_conflict e before rs ≡ None → Clear e before rs
-unfolding first_conflict pairwise_disjoint end_by disjoint_from_all
-all-clear e before [] h = record { apart = all_apart before; pairs = unfold nonempty in refl; ends = unfold nonempty in refl }
+unfolding first_conflict are_pairwise_disjoint are_below is_disjoint_from_all
+all-clear e before [] h = record { apart = all_apart before; pairs = unfold nonempty_regions in refl; ends = unfold nonempty_regions in refl }
 all-clear e before (r ∷ rs) h =
     let n = both_none (conflict_with e before r) (first_conflict e (before ++ (r ∷ [])) rs) h in
     let here = clear e before r n.0 in
     let later : Clear e (before ++ (r ∷ [])) rs = all-clear e (before ++ (r ∷ [])) rs n.1 in
-    let split = all-last (λ x. disjoint_from_all x (nonempty rs)) before r later.apart in
+    let split = all-last (λ x. is_disjoint_from_all x (nonempty_regions rs)) before r later.apart in
     ⊎_elim
     (λ (s : 0 < r.size). let past : nat_lt e (end_of r) ≡ false = rw (lt-ltb 0 r.size s) at here.0 in
     record {
-      apart = rw (nonempty-cons r rs s) (all-both (λ x. disjoint x r) (λ x. disjoint_from_all x (nonempty rs)) before here.1 split.0);
-      pairs = rw (nonempty-cons r rs s) (and_both _ _ split.1 later.pairs);
-      ends = rw (nonempty-cons r rs s) (and_both (nat_le (end_of r) e) _ (le-leb (end_of r) e (ltb-false e (end_of r) past)) later.ends);
+      apart = rw (nonempty_regions-cons r rs s) (all-both (λ x. are_disjoint x r) (λ x. is_disjoint_from_all x (nonempty_regions rs)) before here.1 split.0);
+      pairs = rw (nonempty_regions-cons r rs s) (and_both _ _ split.1 later.pairs);
+      ends = rw (nonempty_regions-cons r rs s) (and_both (nat_le (end_of r) e) _ (le-leb (end_of r) e (ltb-false e (end_of r) past)) later.ends);
     })
     (λ (s : r.size ≤ 0). let z : r.size ≡ 0 = omega arith in
     record {
-      apart = rw (nonempty-empty r rs z) split.0;
-      pairs = rw (nonempty-empty r rs z) later.pairs;
-      ends = rw (nonempty-empty r rs z) later.ends;
+      apart = rw (nonempty_regions-empty r rs z) split.0;
+      pairs = rw (nonempty_regions-empty r rs z) later.pairs;
+      ends = rw (nonempty_regions-empty r rs z) later.ends;
     })
     (lt-or-le 0 r.size)
 
 -- LAW: where the used regions of an image are refused, one is named
-pub conflict-named : (image : List ℕ) → disjoint_below (disc_end image) (used_in image) ≡ false → first_conflict (disc_end image) [] (owned_regions image) ≡ None → ⊥
-unfolding disjoint_below used_in
+pub conflict-named : (image : List ℕ) → are_disjoint_below (disc_end image) (used_in image) ≡ false → first_conflict (disc_end image) [] (owned_regions image) ≡ None → ⊥
+unfolding are_disjoint_below used_in
 conflict-named image f h =
     let c : Clear (disc_end image) [] (owned_regions image) = all-clear (disc_end image) [] (owned_regions image) h in
-    let q : false ≡ true = sym f ∙ and_both (pairwise_disjoint (nonempty (owned_regions image))) (end_by (disc_end image) (nonempty (owned_regions image))) c.pairs c.ends in
+    let q : false ≡ true = sym f ∙ and_both (are_pairwise_disjoint (nonempty_regions (owned_regions image))) (are_below (disc_end image) (nonempty_regions (owned_regions image))) c.pairs c.ends in
     cc

@@ -6,19 +6,19 @@ use Rattle.tree.specs.Table.{count}
 use Rattle.tree.proofs.Laws.Accepted.{length-nodes_of}
 use Rattle.space.specs.Used.{total_size}
 use Rattle.space.specs.Laws.TotalLaws.{total-used}
-use Rattle.opened.specs.Opening.{table_of, nodes_in, behind_table, used_in, free_space_of, used_of, Disc, free_of}
+use Rattle.opened.specs.Opening.{table_of, nodes_in, regions_behind_table, used_in, free_space_of, used_of, Disc, free_of}
 use Rattle.opened.specs.Inner.Disc.{Opened, Means}
 
 total-shown : (image : List ℕ) → used_of image ≡ total_size (used_in image)
 unfolding used_in used_of
-total-shown image = sym (total-used (table_end image) (behind_table image))
+total-shown image = sym (total-used (table_end image) (regions_behind_table image))
 
 module _ (image : List ℕ) (d : Opened) (m : Means image d) where
   pub start_meant : fst_offset image ≡ d.disc.start
   start_meant = ap (λ (x : Disc). x.start) m.is
 
-  pub room_meant : fst_size image ≡ d.disc.room
-  room_meant = ap (λ (x : Disc). x.room) m.is
+  pub room_meant : fst_size image ≡ d.disc.table_size
+  room_meant = ap (λ (x : Disc). x.table_size) m.is
 
   pub maximum_meant : fst_max_size image ≡ d.disc.maximum
   maximum_meant = ap (λ (x : Disc). x.maximum) m.is

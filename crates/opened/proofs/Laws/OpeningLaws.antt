@@ -1,5 +1,5 @@
 -- What opening tells of an image, and that the free bytes and the used total fill the disc. Assumes nothing.
-use Rattle.std.specs.Prelude.{Result, Ok, Err}
+use Rattle.std.specs.Prelude.{Result, Ok, Err, is_err}
 use Rattle.refusal.specs.Refusal.{Verdict}
 use Rattle.std.specs.Prelude.{ℕ, zero, suc, ◌+◌, ◌≤◌, ◌<◌, ◌≡◌, refl, true, false, not, List, length, take, drop}
 use Rattle.std.proofs.Common.{sym, ap, ◌∙◌, ⊎_elim, arith, add_assoc, length-take}
@@ -10,7 +10,7 @@ use Rattle.endian.specs.Laws.Stored.{length-span, get_d-span}
 use Rattle.refusal.specs.Laws.Tests.{lt-or-le}
 use Rattle.refusal.specs.declared.Refusal.TheVariants.{OverlappingRegions}
 use Rattle.refusal.specs.declared.Refusal.{Refusal}
-use Rattle.refusal.specs.Refusal.{first, is_refused}
+use Rattle.refusal.specs.Refusal.{first}
 use Rattle.refusal.specs.Laws.Chains.{first-passed, first-stop, first-go, refuse-passed}
 use Rattle.header.specs.Verdicts.{header_verdict, bounds_verdict, fst_offset, fst_size, disc_end, table_end}
 use Rattle.header.specs.Laws.FieldTests.{header-passed, Bounded, bounds-passed}
@@ -19,13 +19,13 @@ use Rattle.tree.specs.Inner.Accepted.{IsAccepted}
 use Rattle.tree.proofs.Laws.Accepted.{accepted}
 use Rattle.space.specs.declared.region.DiscRegion.{DiscRegion}
 use Rattle.space.specs.Used.{total_size}
-use Rattle.space.specs.Inner.Sort.{regions_in, holds}
-use Rattle.space.specs.Layout.{disjoint_below}
+use Rattle.space.specs.Inner.Sort.{regions_in, is_among}
+use Rattle.space.specs.Layout.{are_disjoint_below}
 use Rattle.space.specs.Laws.TotalLaws.{free_bytes, total-used, used-and-free}
 use Rattle.space.specs.Laws.SortLaws.{same_total, same-regions}
 use Rattle.executable.specs.Program.{program_of, program_verdict}
-use Rattle.opened.specs.Opening.{table_of, behind_table, used_in, used_of, layout_verdict, opening}
-use Rattle.opened.specs.Inner.Prepared.{verdict_before24, UsedWords, IsReadable, OpenImage, OpensImage, IsOpen, Prepares}
+use Rattle.opened.specs.Opening.{table_of, regions_behind_table, used_in, used_of, layout_verdict, opening}
+use Rattle.opened.specs.Inner.Prepared.{verdict_before24, UsedWords, IsReadable, IsOpenImage, OpensImage, IsOpen, Prepares}
 
 -- ---- chains
 
@@ -34,10 +34,10 @@ first-assoc (Ok _) b c = refl
 first-assoc (Err x) b c = refl
 
 -- the first two groups refused, or passed
-pub stopped : (v a b c : Verdict) → v ≡ first a b → is_refused v ≡ true → v ≡ first a (first b c)
+pub stopped : (v a b c : Verdict) → v ≡ first a b → is_err v ≡ true → v ≡ first a (first b c)
 stopped v a b c e r = sym (first-stop v c r) ∙ ap (λ (u : Verdict). first u c) e ∙ first-assoc a b c
 
-pub went_on : (v a b c : Verdict) → v ≡ first a b → is_refused v ≡ false → c ≡ first a (first b c)
+pub went_on : (v a b c : Verdict) → v ≡ first a b → is_err v ≡ false → c ≡ first a (first b c)
 went_on v a b c e r = sym (first-go v c r) ∙ ap (λ (u : Verdict). first u c) e ∙ first-assoc a b c
 
 -- ---- parts of an image
@@ -95,7 +95,7 @@ pub program-first : (image : List ℕ) (c : Refusal) → program_verdict (progra
 unfolding layout_verdict
 program-first image c e = rw e
 
-pub opens : (image : List ℕ) (words : ℕ) → AllBytes image → opening image words ≡ Ok tt → OpenImage image words
+pub opens : (image : List ℕ) (words : ℕ) → AllBytes image → opening image words ≡ Ok tt → IsOpenImage image words
 unfolding layout_verdict
 opens image words bytes e =
     let p = first-passed (verdict_before24 image words) _ (sym (opening-split image words) ∙ e) in
@@ -105,13 +105,13 @@ opens image words bytes e =
       passed = e;
       reads = readable image words bytes p.0;
       program = q.0;
-      layout = not-false (disjoint_below (disc_end image) (used_in image)) (refuse-passed (not (disjoint_below (disc_end image) (used_in image))) OverlappingRegions (Ok tt) q.1).0;
+      layout = not-false (are_disjoint_below (disc_end image) (used_in image)) (refuse-passed (not (are_disjoint_below (disc_end image) (used_in image))) OverlappingRegions (Ok tt) q.1).0;
     }
 
 -- table end, files, program and free bytes fill the disc, on every image that opens
 pub disc-filled : (image : List ℕ) (words : ℕ) → AllBytes image → opening image words ≡ Ok tt → used_of image + free_bytes (disc_end image) (used_in image) ≡ disc_end image
 unfolding used_of used_in
-disc-filled image words bytes e = used-and-free (table_end image) (disc_end image) (behind_table image) (opens image words bytes e).layout
+disc-filled image words bytes e = used-and-free (table_end image) (disc_end image) (regions_behind_table image) (opens image words bytes e).layout
 
 -- the table of an image that opens is accepted
 pub table-accepted : (image : List ℕ) (words : ℕ) → opening image words ≡ Ok tt → check (table_of image) words ≡ Ok tt
@@ -135,9 +135,9 @@ module _ (image w : List ℕ) (p : Result ℕ Refusal) (h : Prepares image w p) 
 module _ (image w : List ℕ) (m : ℕ) (used : UsedWords image w m) where
   pub used-total : total_size (regions_in w 0 m) ≡ used_of image
   unfolding used_in used_of
-  used-total = same_total (regions_in w 0 m) (used_in image) used.sums ∙ total-used (table_end image) (behind_table image)
+  used-total = same_total (regions_in w 0 m) (used_in image) used.sums ∙ total-used (table_end image) (regions_behind_table image)
 
-  pub used-regions : (r : DiscRegion) → holds r (regions_in w 0 m) ≡ holds r (used_in image)
+  pub used-regions : (r : DiscRegion) → is_among r (regions_in w 0 m) ≡ is_among r (used_in image)
   used-regions = same-regions (regions_in w 0 m) (used_in image) used.sums
 
 -- the words hold the table's region at least

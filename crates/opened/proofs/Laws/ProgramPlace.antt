@@ -16,12 +16,12 @@ use Rattle.refusal.specs.Laws.Tests.{and_left, and_right, or_cases}
 use Rattle.header.specs.Verdicts.{dol_offset, fst_offset, table_end, disc_end}
 use Rattle.space.specs.declared.region.DiscRegion.{DiscRegion}
 use Rattle.space.specs.Used.{end_of}
-use Rattle.space.specs.Layout.{pairwise_disjoint, disjoint_below}
-use Rattle.space.specs.Laws.UsedLaws.{lies_within, files_within, disjoint-below-used}
+use Rattle.space.specs.Layout.{are_pairwise_disjoint, are_disjoint_below}
+use Rattle.space.specs.Laws.UsedLaws.{lies_within, files_within, are_disjoint-below-used}
 use Rattle.executable.specs.Program.{program_of, program_verdict, program_in, program_behind}
 use Rattle.executable.specs.Laws.ProgramLaws.{Accepted, absent, present, accepted, own-cases}
-use Rattle.opened.specs.Opening.{nodes_in, region_of, behind_table, used_in, layout_verdict, opening}
-use Rattle.opened.specs.Inner.Prepared.{verdict_before24, OpenImage}
+use Rattle.opened.specs.Opening.{nodes_in, region_of, regions_behind_table, used_in, layout_verdict, opening}
+use Rattle.opened.specs.Inner.Prepared.{verdict_before24, IsOpenImage}
 use Rattle.opened.proofs.Laws.OpeningLaws.{opens, opening-split}
 
 -- before the table or behind it, and within the disc end
@@ -38,15 +38,15 @@ module _ (image : List ℕ) (words : ℕ) (bytes : AllBytes image) (some : dol_o
       go (present z v e) = rw e (omega arith)
 
   -- its own region lies within what is behind the table
-  own-within : OpenImage image words → lies_within (table_end image) (disc_end image) (program_behind image) ≡ true
-  unfolding used_in behind_table files_within
+  own-within : IsOpenImage image words → lies_within (table_end image) (disc_end image) (program_behind image) ≡ true
+  unfolding used_in regions_behind_table files_within
   own-within o =
       let fs : List DiscRegion = map region_of (nodes_in image) in
       let t : ℕ = table_end image in
       let e : ℕ = disc_end image in
-      let d : (leb t e && (files_within t e (behind_table image) && pairwise_disjoint (behind_table image))) ≡ true =
-      sym (disjoint-below-used t e (behind_table image) (omega (arith, o.reads.bounds.after-header))) ∙ o.layout in
-      and_left (lies_within t e (program_behind image)) (files_within t e fs) (and_left (files_within t e (behind_table image)) (pairwise_disjoint (behind_table image)) (and_right (leb t e) _ d))
+      let d : (leb t e && (files_within t e (regions_behind_table image) && are_pairwise_disjoint (regions_behind_table image))) ≡ true =
+      sym (are_disjoint-below-used t e (regions_behind_table image) (omega (arith, o.reads.bounds.after-header))) ∙ o.layout in
+      and_left (lies_within t e (program_behind image)) (files_within t e fs) (and_left (files_within t e (regions_behind_table image)) (are_pairwise_disjoint (regions_behind_table image)) (and_right (leb t e) _ d))
 
   -- LAW: so it lies, in an image that opens
   pub program-lies : opening image words ≡ Ok tt → WellPlaced image (program_in image)
@@ -63,8 +63,8 @@ module _ (image : List ℕ) (words : ℕ) (bytes : AllBytes image) (some : dol_o
   -- LAW: anywhere else it is 14, once the tests before it passed
   pub program-elsewhere : verdict_before24 image words ≡ Ok tt → program_verdict (program_of image) ≡ Ok tt → (WellPlaced image (program_in image) → ⊥) → opening image words ≡ Err OverlappingRegions
   unfolding layout_verdict
-  program-elsewhere b p n = opening-split image words ∙ rw (b, p) (go (disjoint_below (disc_end image) (used_in image)) refl)
+  program-elsewhere b p n = opening-split image words ∙ rw (b, p) (go (are_disjoint_below (disc_end image) (used_in image)) refl)
     where
-      go : (t : Bool) → disjoint_below (disc_end image) (used_in image) ≡ t → refuse (not t) OverlappingRegions (Ok tt) ≡ Err OverlappingRegions
+      go : (t : Bool) → are_disjoint_below (disc_end image) (used_in image) ≡ t → refuse (not t) OverlappingRegions (Ok tt) ≡ Err OverlappingRegions
       go false q = refl
       go true q = absurd (n (program-lies (opening-split image words ∙ rw (b, p, q))))

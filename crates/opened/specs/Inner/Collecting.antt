@@ -2,7 +2,7 @@
 use Rattle.std.specs.Prelude.{Option, None, Some, ℕ, ◌≤◌, ◌<◌, ◌≡◌, List}
 use Rattle.tree.specs.Table.{kind, offset_or_parent, size_or_next}
 use Rattle.space.specs.declared.region.DiscRegion.{DiscRegion}
-use Rattle.space.specs.Inner.Words.{Added}
+use Rattle.space.specs.Inner.Words.{IsAdded}
 use Rattle.opened.specs.Inner.Prepared.{AddedEntry, CollectedTo}
 use Rattle.opened.specs.declared.regions.Collected.{Collected}
 
@@ -18,7 +18,7 @@ InTurn k end None = Unit {0}
 
 -- one region more stands behind those that were there, unless it is empty; that of entry k; those of the entries from `from` up to `to`
 abbrev pub AddsRegion : Collected → Collected → DiscRegion → Type 0
-AddsRegion old new region = Added old.words.now new.words.now old.count region.offset region.size new.count
+AddsRegion old new region = IsAdded old.words.now new.words.now old.count region.offset region.size new.count
 
 abbrev pub AddsEntry : Collected → Collected → List ℕ → ℕ → Type 0
 AddsEntry old new tab k = AddedEntry tab k old.words.now new.words.now old.count new.count

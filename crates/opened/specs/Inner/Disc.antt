@@ -6,7 +6,7 @@ use Rattle.tree.specs.Table.{nodes_of}
 use Rattle.space.specs.declared.region.DiscRegion.{DiscRegion}
 use Rattle.space.specs.Used.{used_regions}
 use Rattle.opened.specs.Opening.{table_of, region_of, opening, Disc, disc_of}
-use Rattle.opened.specs.Inner.Prepared.{OpenImage}
+use Rattle.opened.specs.Inner.Prepared.{IsOpenImage}
 
 -- the table's bytes are what the listing of an image reads, and no edit is decided on them
 pub record Opened : Type 0 where
@@ -19,7 +19,7 @@ abbrev pub disc_in : List ℕ → List ℕ → DiscRegion → Disc
 disc_in header table own = record {
   nodes = nodes_of table;
   start = fst_offset header;
-  room = fst_size header;
+  table_size = fst_size header;
   maximum = fst_max_size header;
   end = disc_end header;
   used = used_regions (table_end header) (own ∷ map region_of (nodes_of table));
@@ -32,7 +32,7 @@ opened_in header table own words = record { disc = disc_in header table own; tab
 
 -- the image opens with that many words, and means that disc
 pub record Means (image : List ℕ) (d : Opened) : Type 0 where
-  pub known : OpenImage image d.words
+  pub known : IsOpenImage image d.words
   pub is : disc_of image ≡ d.disc
   pub table_is : table_of image ≡ d.table
 

@@ -4,7 +4,7 @@ use Rattle.std.specs.List.{position_from}
 use Rattle.tree.specs.Table.{nodes_of}
 use Rattle.space.specs.declared.region.DiscRegion.{DiscRegion}
 use Rattle.space.specs.Used.{no_region}
-use Rattle.space.specs.Layout.{disjoint}
+use Rattle.space.specs.Layout.{are_disjoint}
 use Rattle.opened.specs.Opening.{region_of}
 use Rattle.opened.specs.declared.conflicts.Layout.{Layout}
 
@@ -23,4 +23,4 @@ regions_before l i = take i (regions_of l)
 
 -- the first of those before region i that shares a byte with it
 abbrev pub shared_with : Layout → ℕ → Option ℕ
-shared_with l i = position_from (λ x. not (disjoint x (region_at l i))) 0 (regions_before l i)
+shared_with l i = position_from (λ x. not (are_disjoint x (region_at l i))) 0 (regions_before l i)

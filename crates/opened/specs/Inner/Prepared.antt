@@ -10,8 +10,8 @@ use Rattle.header.specs.Laws.FieldTests.{GoodHeader, Bounded}
 use Rattle.tree.specs.Table.{node_with, kind, offset_or_parent, size_or_next, count, check}
 use Rattle.tree.specs.Inner.Accepted.{IsAccepted}
 use Rattle.space.specs.declared.region.DiscRegion.{DiscRegion}
-use Rattle.space.specs.Used.{nonempty, used_regions}
-use Rattle.space.specs.Layout.{disjoint_below}
+use Rattle.space.specs.Used.{nonempty_regions, used_regions}
+use Rattle.space.specs.Layout.{are_disjoint_below}
 use Rattle.space.specs.Free.{free_regions}
 use Rattle.space.specs.Inner.Sort.{regions_in, SameSums}
 use Rattle.space.specs.Inner.Words.{IsSortedDisjoint}
@@ -27,18 +27,18 @@ abbrev pub entry_region : List ℕ → ℕ → DiscRegion
 entry_region tab k = region_of (node_with (kind tab k) [] (offset_or_parent tab k) (size_or_next tab k))
 
 -- those of n entries from k on
-unfoldable pub entry_regions : List ℕ → ℕ → ℕ → List DiscRegion
-entry_regions tab k zero = []
-entry_regions tab k (suc n) = entry_region tab k ∷ entry_regions tab (suc k) n
+unfoldable pub regions_from : List ℕ → ℕ → ℕ → List DiscRegion
+regions_from tab k zero = []
+regions_from tab k (suc n) = entry_region tab k ∷ regions_from tab (suc k) n
 
 -- entry k's region stands after m others, unless it is empty
 pub record AddedEntry (tab : List ℕ) (k : ℕ) (w w' : List ℕ) (m r : ℕ) : Type 0 where
-  pub list : regions_in w' 0 r ≡ regions_in w 0 m ++ nonempty (entry_region tab k ∷ [])
+  pub list : regions_in w' 0 r ≡ regions_in w 0 m ++ nonempty_regions (entry_region tab k ∷ [])
   pub bound : r ≤ m + 1
 
 -- the regions of the entries from k on, those before k', stand after m others
 pub record CollectedTo (tab : List ℕ) (k m : ℕ) (w w' : List ℕ) (k' m' : ℕ) : Type 0 where
-  pub list : regions_in w' 0 m' ≡ regions_in w 0 m ++ nonempty (entry_regions tab k (k' - k))
+  pub list : regions_in w' 0 m' ≡ regions_in w 0 m ++ nonempty_regions (regions_from tab k (k' - k))
   pub from : k ≤ k'
   pub bound : m' ≤ m + (k' - k)
 
@@ -47,12 +47,12 @@ pub record CollectedUsed (tab : List ℕ) (n t : ℕ) (program : DiscRegion) (w 
   pub turn : ℕ
   pub from : 1 ≤ turn
   pub to : turn ≤ n
-  pub list : regions_in w 0 m ≡ used_regions t (entry_regions tab 1 (turn - 1) ++ (program ∷ entry_regions tab turn (n - turn)))
+  pub list : regions_in w 0 m ≡ used_regions t (regions_from tab 1 (turn - 1) ++ (program ∷ regions_from tab turn (n - turn)))
   pub bound : m ≤ n + 1
 
 -- lists of regions that come to the same on a disc that ends at e
 pub record SameUse (e : ℕ) (xs ys : List DiscRegion) : Type 0 where
-  pub below : disjoint_below e xs ≡ disjoint_below e ys
+  pub below : are_disjoint_below e xs ≡ are_disjoint_below e ys
   pub free : free_regions e xs ≡ free_regions e ys
   pub sums : SameSums xs ys
 
@@ -74,21 +74,21 @@ pub record IsReadable (image : List ℕ) (words : ℕ) : Type 0 where
   pub next : be32 image (fst_offset image + 8) ≡ count (table_of image)
 
 -- what opening tells, where so many working words are lent
-pub record OpenImage (image : List ℕ) (words : ℕ) : Type 0 where
+pub record IsOpenImage (image : List ℕ) (words : ℕ) : Type 0 where
   pub bytes : AllBytes image
   pub passed : opening image words ≡ Ok tt
   pub reads : IsReadable image words
   pub program : program_verdict (program_of image) ≡ Ok tt
-  pub layout : disjoint_below (disc_end image) (used_in image) ≡ true
+  pub layout : are_disjoint_below (disc_end image) (used_in image) ≡ true
 
 -- the image is open, with some number of words
 pub record OpensImage (image : List ℕ) : Type 0 where
   pub words : ℕ
-  pub known : OpenImage image words
+  pub known : IsOpenImage image words
 
 -- it is open with these words, which hold the m used regions now
 pub record IsOpen (image w : List ℕ) (m : ℕ) : Type 0 where
-  pub known : OpenImage image (length w)
+  pub known : IsOpenImage image (length w)
   pub used : UsedWords image w m
 
 -- by the cases of the answer: the image is open, or opening refused it

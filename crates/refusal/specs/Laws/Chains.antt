@@ -1,11 +1,11 @@
 -- What a chain of tests says where it passes, and that no two causes have one number. Assumes nothing.
-use Rattle.std.specs.Prelude.{Ok, Err}
+use Rattle.std.specs.Prelude.{Ok, Err, is_err}
 use Rattle.refusal.specs.Refusal.{Verdict}
 use Rattle.std.specs.Prelude.{ℕ, ◌≡◌, refl, Bool, true, false, List, [], ◌∷◌, get_or}
 use Rattle.std.proofs.Common.{sym, ap, ◌∙◌, arith}
 use Rattle.refusal.specs.declared.Refusal.{Refusal}
 use Rattle.refusal.specs.declared.Refusal.TheVariants.{HeaderPastImage, WiiNotSupported, InvalidMagic, InvalidBounds, EntryPastTable, UnrecognizedKind, RootIsNotDirectory, MissingNullTerminator, LimitOrMemory, InvalidNextIndex, InvalidNameOffset, InvalidNameByte, UnsafeName, OverlappingRegions, NoSuchEntry, ExpectedFile, ExpectedDirectory, NotFound, AlreadyExists, OverlappingMove, NotEnoughSpace, InvalidAlignment, InvalidSeek, InvalidDol, TotalsOutOfRange, TableAboveMaximum}
-use Rattle.refusal.specs.Refusal.{number_of, refuse, first, is_refused}
+use Rattle.refusal.specs.Refusal.{number_of, refuse, first}
 
 -- a chain that passes: its first test fails to hold, and the later tests pass
 pub refuse-passed : (t : Bool) (c : Refusal) (later : Verdict) → refuse t c later ≡ Ok tt → (t ≡ false) × (later ≡ Ok tt)
@@ -17,15 +17,15 @@ first-passed (Ok _) b e = (refl, e)
 first-passed (Err c) b e = let z : ◌≡◌ {A = ℕ} 0 1 = cc in absurd (omega arith)
 
 -- a group that refuses is the answer, and one that passes hands over to the next
-pub first-stop : (a b : Verdict) → is_refused a ≡ true → first a b ≡ a
+pub first-stop : (a b : Verdict) → is_err a ≡ true → first a b ≡ a
 first-stop (Ok _) b e = let z : ◌≡◌ {A = ℕ} 0 1 = cc in absurd (omega arith)
 first-stop (Err c) b e = refl
 
-pub first-go : (a b : Verdict) → is_refused a ≡ false → first a b ≡ b
+pub first-go : (a b : Verdict) → is_err a ≡ false → first a b ≡ b
 first-go (Ok _) b e = refl
 first-go (Err c) b e = let z : ◌≡◌ {A = ℕ} 0 1 = cc in absurd (omega arith)
 
-pub not-refused : (a : Verdict) → is_refused a ≡ false → a ≡ Ok tt
+pub not-refused : (a : Verdict) → is_err a ≡ false → a ≡ Ok tt
 not-refused (Ok _) e = refl
 not-refused (Err c) e = let z : ◌≡◌ {A = ℕ} 0 1 = cc in absurd (omega arith)
 

@@ -6,7 +6,7 @@ use Rattle.space.specs.Clusters.{bytes_before, whole_clusters, exact_rest}
 use Rattle.space.specs.declared.clusters.Clusters.{Clusters}
 
 -- the three numbers are those of the region
-pub record Counted (region : DiscRegion) (counted : Clusters) : Type 0 where
+pub record IsCounted (region : DiscRegion) (counted : Clusters) : Type 0 where
   pub before : counted.before ≡ bytes_before region
   pub clusters : counted.clusters ≡ whole_clusters region
   pub rest : counted.rest ≡ exact_rest region

@@ -4,5 +4,5 @@ use Rattle.std.specs.Prelude.{Option, Some, None, if◌then◌else◌, ◌==◌}
 use Rattle.space.specs.declared.region.DiscRegion.{DiscRegion}
 
 -- a region that was found has a byte, so size 0 means that there is none
-abbrev pub found_or_none : DiscRegion → Option DiscRegion
-found_or_none b = if b.size == 0 then None else Some b
+abbrev pub rest_or_none : DiscRegion → Option DiscRegion
+rest_or_none b = if b.size == 0 then None else Some b

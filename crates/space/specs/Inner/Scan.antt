@@ -27,10 +27,10 @@ pub record Moved : Type 0 where
   pub verdict : Verdict
   pub totals : Totals
 
-abbrev pub moved : Verdict → Totals → Moved
-moved v t = record { verdict = v; totals = t }
+abbrev pub moved_with : Verdict → Totals → Moved
+moved_with v t = record { verdict = v; totals = t }
 
 -- by the verdict: the next record, or the one that came in
 abbrev pub moved_as : Verdict → Totals → Totals → Moved
-moved_as (Ok _) t next = moved (Ok tt) next
-moved_as (Err c) t next = moved (Err c) t
+moved_as (Ok _) t next = moved_with (Ok tt) next
+moved_as (Err c) t next = moved_with (Err c) t

@@ -16,9 +16,9 @@ pub record InWords (w : List ℕ) (m e : ℕ) : Type 0 where
   pub small : e < 2 ^ 32
 
 -- the first m regions in words, on a disc that ends at e
-abbrev pub used_in : List ℕ → ℕ → ℕ → UsedSpace
-used_in w m e = record { regions = regions_in w 0 m; disc_end = e }
+abbrev pub used_space_in : List ℕ → ℕ → ℕ → UsedSpace
+used_space_in w m e = record { regions = regions_in w 0 m; disc_end = e }
 
 -- the free regions that they leave
-abbrev pub free_in : UsedSpace → List DiscRegion
-free_in u = free_regions u.disc_end u.regions
+abbrev pub free_space_in : UsedSpace → List DiscRegion
+free_space_in u = free_regions u.disc_end u.regions

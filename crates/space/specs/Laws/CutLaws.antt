@@ -8,10 +8,10 @@ use Rattle.std.proofs.Math.Bool.{true, false, cond}
 use borrow.Author.Tests.{leb-true, leb-false, eqb-true, eqb-false, eq-eqb, ne_eqb}
 use Rattle.std.proofs.Math.Dec.{leb, eqb}
 use Rattle.space.specs.declared.region.DiscRegion.{DiscRegion}
-use Rattle.space.specs.Used.{end_of, inside}
+use Rattle.space.specs.Used.{end_of, is_inside}
 use Rattle.space.specs.Free.{join, runs, largest_size}
 use Rattle.space.specs.Laws.RunLaws.{FirstFrom, runs-from, from_le}
-use Rattle.space.specs.Laws.UsedLaws.{inside-low, inside-in, inside-high}
+use Rattle.space.specs.Laws.UsedLaws.{is_inside-low, is_inside-in, is_inside-high}
 use Rattle.refusal.specs.Laws.Tests.{lt-or-le}
 use Rattle.space.specs.Inner.Scan.{longest_beside}
 
@@ -78,11 +78,11 @@ largest-whole p i (suc n) h = rw (runs-whole p i n h) (omega arith)
 
 -- ---- one gap
 
-module _ (p : ℕ → Bool) (a b : ℕ) (r : DiscRegion) (h : (j : ℕ) → a ≤ j → j < b → p j ≡ not (inside r j)) where
+module _ (p : ℕ → Bool) (a b : ℕ) (r : DiscRegion) (h : (j : ℕ) → a ≤ j → j < b → p j ≡ not (is_inside r j)) where
   apart : (r.size ≡ 0) ⊎ ((end_of r ≤ a) ⊎ (b ≤ r.offset)) → (j : ℕ) → a ≤ j → j < b → p j ≡ true
   apart c j u v =
-      h j u v ∙ ap not (⊎_elim (λ z. ⊎_elim (λ k. inside-low r j k) (λ k. inside-high r j (omega arith)) (lt-or-le j r.offset))
-      (λ d. ⊎_elim (λ z. inside-high r j (omega arith)) (λ z. inside-low r j (omega arith)) d) c)
+      h j u v ∙ ap not (⊎_elim (λ z. ⊎_elim (λ k. is_inside-low r j k) (λ k. is_inside-high r j (omega arith)) (lt-or-le j r.offset))
+      (λ d. ⊎_elim (λ z. is_inside-high r j (omega arith)) (λ z. is_inside-low r j (omega arith)) d) c)
 
   whole-gap : (r.size ≡ 0) ⊎ ((end_of r ≤ a) ⊎ (b ≤ r.offset)) → largest_size (runs p a (b - a)) ≡ b - a
   whole-gap c = largest-whole p a (b - a) (λ j u v. apart c j u (omega arith))
@@ -94,12 +94,12 @@ module _ (p : ℕ → Bool) (a b : ℕ) (r : DiscRegion) (h : (j : ℕ) → a �
       let o : max a r.offset + (min (end_of r) b - max a r.offset) ≡ min (end_of r) b = omega arith in
       rw (
         n,
-        largest-split p a (r.offset - a) _ (rw m (h (max a r.offset) (omega arith) (omega arith) ∙ rw (inside-in r (max a r.offset) (omega arith) (omega arith)))),
+        largest-split p a (r.offset - a) _ (rw m (h (max a r.offset) (omega arith) (omega arith) ∙ rw (is_inside-in r (max a r.offset) (omega arith) (omega arith)))),
         m,
-        runs_past p (max a r.offset) (min (end_of r) b - max a r.offset) (b - end_of r) (λ j x y. h j (omega arith) (omega arith) ∙ rw (inside-in r j (omega arith) (omega arith))),
+        runs_past p (max a r.offset) (min (end_of r) b - max a r.offset) (b - end_of r) (λ j x y. h j (omega arith) (omega arith) ∙ rw (is_inside-in r j (omega arith) (omega arith))),
         o,
-        largest-whole p a (r.offset - a) (λ j x y. h j x (omega arith) ∙ rw (inside-low r j (omega arith))),
-        largest-whole p (min (end_of r) b) (b - end_of r) (λ j x y. h j (omega arith) (omega arith) ∙ rw (inside-high r j (omega arith))),
+        largest-whole p a (r.offset - a) (λ j x y. h j x (omega arith) ∙ rw (is_inside-low r j (omega arith))),
+        largest-whole p (min (end_of r) b) (b - end_of r) (λ j x y. h j (omega arith) (omega arith) ∙ rw (is_inside-high r j (omega arith))),
       )
 
   no_gap : a ≡ b → r.offset < b → a < end_of r → largest_size (runs p a (b - a)) ≡ max (r.offset - a) (b - end_of r)

@@ -4,7 +4,7 @@ use Rattle.std.specs.Prelude.{ℕ, ◌+◌, ◌-◌, ◌≡◌, ltb}
 use Rattle.std.proofs.Common.{arith, ltb-true, lt-ltb}
 use Rattle.refusal.specs.Laws.Tests.{same_test}
 use Rattle.space.specs.declared.totals.Totals.{Totals}
-use Rattle.space.specs.Totals.{totals_verdict, totals_moved}
+use Rattle.space.specs.Totals.{totals_verdict, moved_totals}
 
 same-used : (u a b c d : ℕ) → b + c ≡ a + d → u + b - a ≡ u + d - c
 same-used u a b c d h = omega arith
@@ -19,6 +19,6 @@ unfolding totals_verdict
 same-verdict t a b c d h = rw (same-used t.used a b c d h, same-short t.used a b c d h)
 
 -- LAW: and the same record
-pub same-moved : (t : Totals) (a b c d : ℕ) → b + c ≡ a + d → (largest : ℕ) → totals_moved t a b largest ≡ totals_moved t c d largest
-unfolding totals_moved
+pub same-moved : (t : Totals) (a b c d : ℕ) → b + c ≡ a + d → (largest : ℕ) → moved_totals t a b largest ≡ moved_totals t c d largest
+unfolding moved_totals
 same-moved t a b c d h largest = rw (same-used t.used a b c d h)

@@ -8,6 +8,6 @@ offset_of (file nm offset size) = offset
 offset_of (directory nm next) = 0
 
 -- the last field: a file's size, a directory's next
-abbrev pub last_of : Node → ℕ
-last_of (file nm offset size) = size
-last_of (directory nm next) = next
+abbrev pub size_or_next_of : Node → ℕ
+size_or_next_of (file nm offset size) = size
+size_or_next_of (directory nm next) = next

@@ -4,7 +4,7 @@ use Rattle.refusal.specs.Refusal.{Verdict}
 use Rattle.std.specs.Prelude.{ℕ, zero, suc, ◌+◌, ◌-◌, ◌*◌, ◌<◌, ◌≤◌, ◌≡◌, not, List, [], ◌∷◌, length}
 use Rattle.refusal.specs.declared.Refusal.TheVariants.{MissingNullTerminator, LimitOrMemory, InvalidNextIndex, InvalidNameByte, UnsafeName}
 use Rattle.refusal.specs.Refusal.{refuse, first}
-use Rattle.tree.specs.Table.{plain, safe, name_offset, size_or_next, name_at, node_at, nodes_from, unended, name_verdict, next_verdict, walk, check}
+use Rattle.tree.specs.Table.{is_plain, is_safe, name_offset, size_or_next, name_at, node_at, nodes_from, is_unended, name_verdict, next_verdict, walk, check}
 
 -- the table is accepted, where some number of working words is lent
 pub record Opens (tab : List ℕ) : Type 0 where
@@ -12,7 +12,7 @@ pub record Opens (tab : List ℕ) : Type 0 where
   pub passed : check tab words ≡ Ok tt
 
 -- c entries stand in the table, the root at least, and no more than the limit
-pub record Inside (tab : List ℕ) (c : ℕ) : Type 0 where
+pub record IsInside (tab : List ℕ) (c : ℕ) : Type 0 where
   pub held : 12 * c ≤ length tab
   pub some : 0 < c
   pub small : c ≤ 16384
@@ -22,14 +22,14 @@ unfoldable pub open_in : List ℕ → ℕ → List ℕ
 open_in words zero = []
 open_in words (suc d) = slice_index words d ∷ open_in words d
 
-pub record Stacked (words : List ℕ) (depth : ℕ) : Type 0 where
+pub record IsStacked (words : List ℕ) (depth : ℕ) : Type 0 where
   pub long : length words ≡ 65
   pub fits : depth ≤ 65
 
 -- the tests of a table of c entries after those of its entries: 8, texts and working words, then the walk
 unfoldable pub texts_verdict : List ℕ → ℕ → ℕ → Verdict
 texts_verdict tab c words =
-    refuse (unended tab c) MissingNullTerminator
+    refuse (is_unended tab c) MissingNullTerminator
     (refuse (nat_lt 1048576 (length tab - 12 * c)) LimitOrMemory
     (refuse (nat_lt words (4 * (c + 2))) LimitOrMemory
     (refuse (nat_le (size_or_next tab 0) 0) InvalidNextIndex
@@ -40,5 +40,5 @@ abbrev pub node_verdict : List ℕ → ℕ → List ℕ → ℕ → Verdict
 node_verdict tab c dirs k = first (name_verdict tab c k (name_at tab c (name_offset tab k))) (next_verdict c dirs k (node_at tab c k))
 
 -- the tests of a name's units: whether each may stand in a name, then whether the name is safe
-abbrev pub text_verdict : List ℕ → Verdict
-text_verdict nm = refuse (not (plain nm)) InvalidNameByte (refuse (not (safe nm)) UnsafeName (Ok tt))
+abbrev pub units_verdict : List ℕ → Verdict
+units_verdict nm = refuse (not (is_plain nm)) InvalidNameByte (refuse (not (is_safe nm)) UnsafeName (Ok tt))

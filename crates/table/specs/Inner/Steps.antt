@@ -17,17 +17,17 @@ left_of None = []
 left_of (Some path) = components path.now
 
 -- what is left of a lookup after a step
-abbrev pub onward : List Node → List ℕ → List (List ℕ) → Result ℕ Refusal → Result ℕ Refusal
-onward nodes trail cs (Ok j) = follow nodes trail j cs
-onward nodes trail cs (Err c) = Err c
+abbrev pub lookup_onward : List Node → List ℕ → List (List ℕ) → Result ℕ Refusal → Result ℕ Refusal
+lookup_onward nodes trail cs (Ok j) = follow nodes trail j cs
+lookup_onward nodes trail cs (Err c) = Err c
 
 -- entries that named steps left, the last first: each stands deeper than those before it are many
-abbrev pub Behind : List Node → List ℕ → Type 0
-Behind nodes [] = Unit {0}
-Behind nodes (j ∷ trail) = (j < length nodes) × (length trail ≤ depth_of nodes j) × Behind nodes trail
+abbrev pub IsBehind : List Node → List ℕ → Type 0
+IsBehind nodes [] = Unit {0}
+IsBehind nodes (j ∷ trail) = (j < length nodes) × (length trail ≤ depth_of nodes j) × IsBehind nodes trail
 
 -- named steps led to entry k, each one deeper than the last
 pub record IsTrail (nodes : List Node) (trail : List ℕ) (k : ℕ) : Type 0 where
   pub inside : k < length nodes
   pub deep : length trail ≤ depth_of nodes k
-  pub behind : Behind nodes trail
+  pub behind : IsBehind nodes trail

@@ -2,5 +2,5 @@
 use Rattle.std.specs.Prelude.{ℕ, List, [], ◌∷◌}
 use Rattle.table.specs.declared.rows.Row.{Row}
 
-abbrev pub words_of : Row → List ℕ
-words_of r = r.kind ∷ r.parent ∷ r.offset ∷ r.last ∷ r.place ∷ r.size ∷ []
+abbrev pub row_words : Row → List ℕ
+row_words r = r.kind ∷ r.parent ∷ r.offset ∷ r.last ∷ r.place ∷ r.size ∷ []

@@ -10,8 +10,8 @@ abbrev pub after_in : List ℕ → ℕ → ℕ
 after_in tab k = if kind tab k == 1 then size_or_next tab k else k + 1
 
 -- the second word: a file keeps its offset, a directory gets the parent that it is nested in
-abbrev pub place_of : List ℕ → ℕ → ℕ → ℕ
-place_of tab parent k = if kind tab k == 0 then offset_or_parent tab k else parent
+abbrev pub text_place : List ℕ → ℕ → ℕ → ℕ
+text_place tab parent k = if kind tab k == 0 then offset_or_parent tab k else parent
 
 -- the record of entry k, whose name is to stand at `text`
 unfoldable pub record_at : List ℕ → ℕ → ℕ → ℕ → ℕ → List ℕ → List ℕ

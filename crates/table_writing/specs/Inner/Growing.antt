@@ -5,11 +5,11 @@ use Rattle.table_writing.specs.Inner.Kind.{kind_is_directory}
 use Rattle.refusal.specs.declared.Refusal.{Refusal}
 use Rattle.tree.specs.Table.{Node}
 use Rattle.table_writing.specs.declared.growing.Growing.{Growing}
-use Rattle.table_writing.specs.Inner.Growth.{tree_in, added, IsBuilt}
+use Rattle.table_writing.specs.Inner.Growth.{tree_in, tree_with_child, IsBuilt}
 
 -- its entries
-abbrev pub tree_of : Growing → List Node
-tree_of g = tree_in g.bytes.now g.size
+abbrev pub growing_tree : Growing → List Node
+growing_tree g = tree_in g.bytes.now g.size
 
 -- an answer with the size of the table for its number
 abbrev pub sized_as : Result ℕ Refusal → ℕ → Result ℕ Refusal
@@ -18,7 +18,7 @@ sized_as (Err cause) size = Err cause
 
 -- its entries with an empty directory, or an empty file, as last child of p
 abbrev pub added_to : Growing → Kind → ℕ → List ℕ → List Node
-added_to g kind p nm = added (tree_of g) (kind_is_directory kind) p nm
+added_to g kind p nm = tree_with_child (growing_tree g) (kind_is_directory kind) p nm
 
 -- the tree F stands in it afterwards, or cannot
 abbrev pub HasBuilt : Growing → Growing → List Node → Result ℕ Refusal → Type 0

@@ -4,7 +4,7 @@ use Rattle.refusal.specs.declared.Refusal.{Refusal}
 use Rattle.std.specs.Prelude.{ℕ, ◌<◌, ◌≤◌, ◌≡◌, Bool, true, false, List, length, take}
 use Rattle.endian.specs.Bytes.{put}
 use Rattle.refusal.specs.declared.Refusal.TheVariants.{LimitOrMemory}
-use Rattle.tree.specs.Table.{Node, none, nodes_of, encode, limits}
+use Rattle.tree.specs.Table.{Node, empty_root, nodes_of, encode, limits}
 use Rattle.tree.specs.Inner.WellFormed.{IsWellFormed}
 use Rattle.tree.specs.Lookup.{is_directory, next_of}
 use Rattle.tree.specs.Insert.{insert_at}
@@ -24,16 +24,16 @@ pub record Stands (bytes : List ℕ) (size words : ℕ) : Type 0 where
 -- entry p is a directory
 pub record IsDirectory (nodes : List Node) (p : ℕ) : Type 0 where
   pub inside : p < length nodes
-  pub kind : is_directory (slice_index_or nodes p none) ≡ true
+  pub kind : is_directory (slice_index_or nodes p empty_root) ≡ true
 
 -- the tree with an empty directory, or an empty file, as last child of p
-abbrev pub added : List Node → Bool → ℕ → List ℕ → List Node
-added nodes d p nm = insert_at p (new_node d nm (next_of (slice_index_or nodes p none))) nodes
+abbrev pub tree_with_child : List Node → Bool → ℕ → List ℕ → List Node
+tree_with_child nodes d p nm = insert_at p (new_node d nm (next_of (slice_index_or nodes p empty_root))) nodes
 
 -- a new child of a directory of that depth is not too deep: a directory may be 64 deep, the root is 0
-abbrev pub depth_allows : Bool → ℕ → Bool
-depth_allows true depth = nat_lt depth 64
-depth_allows false depth = true
+abbrev pub is_depth_allowed : Bool → ℕ → Bool
+is_depth_allowed true depth = nat_lt depth 64
+is_depth_allowed false depth = true
 
 -- the tree F stands in the bytes, or cannot: it passes a limit (9), or its table is longer than they are (9)
 abbrev pub IsBuilt : List Node → ℕ → List ℕ → List ℕ → Result ℕ Refusal → Type 0

@@ -3,9 +3,9 @@ use Rattle.std.specs.Prelude.{ℕ, Bool, true, false}
 use Rattle.table_writing.specs.declared.kind.Kind.{Kind}
 use Rattle.table_writing.specs.declared.kind.Kind.TheVariants.{File, Directory}
 
-abbrev pub number_of : Kind → ℕ
-number_of File = 0
-number_of Directory = 1
+abbrev pub kind_number : Kind → ℕ
+kind_number File = 0
+kind_number Directory = 1
 
 abbrev pub kind_is_directory : Kind → Bool
 kind_is_directory File = false

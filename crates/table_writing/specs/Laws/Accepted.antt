@@ -7,14 +7,14 @@ use Rattle.refusal.specs.Laws.Tests.{lt-or-le}
 use Rattle.refusal.specs.declared.Refusal.TheVariants.{EntryPastTable, UnrecognizedKind, RootIsNotDirectory, MissingNullTerminator, LimitOrMemory, InvalidNextIndex, InvalidNameOffset}
 use Rattle.refusal.specs.Refusal.{refuse}
 use Rattle.refusal.specs.Laws.Chains.{refuse-passed, first-passed}
-use Rattle.tree.specs.Table.{Node, file, directory, name_of, kind, name_offset, size_or_next, count, up_to0, name_at, node_at, nodes_from, entry_verdict, entries_verdict, unended, top, shut, enter, name_verdict, next_verdict, walk, check}
+use Rattle.tree.specs.Table.{Node, file, directory, name_of, kind, name_offset, size_or_next, count, first_text, name_at, node_at, nodes_from, entry_verdict, entries_verdict, is_unended, top, dirs_open_at, dirs_with, name_verdict, next_verdict, walk, check}
 use Rattle.table_writing.specs.Inner.Valid.{name_size, Nests, IsValid}
-use Rattle.tree.proofs.Laws.Accepted.{not-unended}
-use Rattle.tree.proofs.Laws.Steps.{shut-pop, shut_open}
+use Rattle.tree.proofs.Laws.Accepted.{not-is_unended}
+use Rattle.tree.proofs.Laws.Steps.{dirs_open_at-pop, shut_open}
 
 -- ---- the first zero byte is not behind any zero byte
 
-run-le : (l : List ℕ) (j : ℕ) → get_or l j 0 ≡ 0 → length (up_to0 l) ≤ j
+run-le : (l : List ℕ) (j : ℕ) → get_or l j 0 ≡ 0 → length (first_text l) ≤ j
 run-le [] j e = omega arith
 run-le (zero ∷ l) j e = omega arith
 run-le (suc x ∷ l) zero e = omega (arith, e)
@@ -47,14 +47,14 @@ entries_at tab k (suc m) e i p q =
 
 pub record Step (tab : List ℕ) (c : ℕ) (dirs : List ℕ) (k : ℕ) (x : Node) (xs : List Node) : Type 0 where
   pub name : name_offset tab k < length tab - 12 * c
-  pub next : next_verdict c (shut k dirs) k x ≡ Ok tt
-  pub rest : walk tab c (enter (shut k dirs) x) (suc k) xs ≡ Ok tt
+  pub next : next_verdict c (dirs_open_at k dirs) k x ≡ Ok tt
+  pub rest : walk tab c (dirs_with (dirs_open_at k dirs) x) (suc k) xs ≡ Ok tt
 
 walk_step : (tab : List ℕ) (c : ℕ) (dirs : List ℕ) (k : ℕ) (x : Node) (xs : List Node) → walk tab c dirs k (x ∷ xs) ≡ Ok tt → Step tab c dirs k x xs
 unfolding walk name_verdict
 walk_step tab c dirs k x xs e =
     let a = first-passed (name_verdict tab c k (name_of x)) _ e in
-    let b = first-passed (next_verdict c (shut k dirs) k x) _ a.1 in
+    let b = first-passed (next_verdict c (dirs_open_at k dirs) k x) _ a.1 in
     let d = refuse-passed (leb (length tab - 12 * c) (name_offset tab k)) InvalidNameOffset _ a.0 in
     record { name = leb-false (length tab - 12 * c) (name_offset tab k) d.0; next = b.0; rest = b.1 }
 
@@ -67,27 +67,27 @@ next-says c dirs k nm next e =
     let d = refuse-passed (ltb (top dirs) next) InvalidNextIndex _ b.1 in
     (leb-false next k a.0, ltb-false c next b.0, ltb-false (top dirs) next d.0)
 
-shut-shut : (k j : ℕ) (dirs : List ℕ) → k ≤ j → shut j (shut k dirs) ≡ shut j dirs
-unfolding shut
-shut-shut k j [] h = refl
-shut-shut k j (n ∷ dirs) h = go (leb n k) refl (shut-shut k j dirs h)
+dirs_open_at-dirs_open_at : (k j : ℕ) (dirs : List ℕ) → k ≤ j → dirs_open_at j (dirs_open_at k dirs) ≡ dirs_open_at j dirs
+unfolding dirs_open_at
+dirs_open_at-dirs_open_at k j [] h = refl
+dirs_open_at-dirs_open_at k j (n ∷ dirs) h = go (leb n k) refl (dirs_open_at-dirs_open_at k j dirs h)
   where
-    go : (t : Bool) → leb n k ≡ t → shut j (shut k dirs) ≡ shut j dirs → shut j (cond t (shut k dirs) (n ∷ dirs)) ≡ shut j (n ∷ dirs)
+    go : (t : Bool) → leb n k ≡ t → dirs_open_at j (dirs_open_at k dirs) ≡ dirs_open_at j dirs → dirs_open_at j (cond t (dirs_open_at k dirs) (n ∷ dirs)) ≡ dirs_open_at j (n ∷ dirs)
     go true e ih = rw (le-leb n j (omega (arith, leb-true n k e))) ih
     go false e ih = refl
 
 -- from entry k up to b, the innermost directory that is open ends at b or before it
 abbrev Under : ℕ → ℕ → List ℕ → Type 0
-Under b k dirs = (j : ℕ) → k ≤ j → j < b → top (shut j dirs) ≤ b
+Under b k dirs = (j : ℕ) → k ≤ j → j < b → top (dirs_open_at j dirs) ≤ b
 
-under-step : (b c k : ℕ) (dirs : List ℕ) (x : Node) → next_verdict c (shut k dirs) k x ≡ Ok tt → Under b k dirs → Under b (suc k) (enter (shut k dirs) x)
-under-step b c k dirs (file nm offset size) e u j p q = rw (shut-shut k j dirs (omega arith)) (u j (omega arith) q)
+under-step : (b c k : ℕ) (dirs : List ℕ) (x : Node) → next_verdict c (dirs_open_at k dirs) k x ≡ Ok tt → Under b k dirs → Under b (suc k) (dirs_with (dirs_open_at k dirs) x)
+under-step b c k dirs (file nm offset size) e u j p q = rw (dirs_open_at-dirs_open_at k j dirs (omega arith)) (u j (omega arith) q)
 under-step b c k dirs (directory nm next) e u j p q =
     ⊎_elim
     (λ (h : j < next).
-    let s = next-says c (shut k dirs) k nm next e in
-    rw (shut_open j next (shut k dirs) h) (omega (arith, s.2, u k (omega arith) (omega arith))))
-    (λ (h : next ≤ j). rw (shut-pop j next (shut k dirs) h, shut-shut k j dirs (omega arith)) (u j (omega arith) q))
+    let s = next-says c (dirs_open_at k dirs) k nm next e in
+    rw (shut_open j next (dirs_open_at k dirs) h) (omega (arith, s.2, u k (omega arith) (omega arith))))
+    (λ (h : next ≤ j). rw (dirs_open_at-pop j next (dirs_open_at k dirs) h, dirs_open_at-dirs_open_at k j dirs (omega arith)) (u j (omega arith) q))
     (lt-or-le j next)
 
 node-directory : (tab : List ℕ) (c k : ℕ) → kind tab k ≡ 1 → node_at tab c k ≡ directory (name_at tab c (name_offset tab k)) (size_or_next tab k)
@@ -99,9 +99,9 @@ module _ (tab : List ℕ) (c : ℕ) where
   unfolding nodes_from
   step-at dirs k m e = walk_step tab c dirs k (node_at tab c k) (nodes_from tab c (suc k) m) e
 
-  says_at : (dirs : List ℕ) (k m : ℕ) → walk tab c dirs k (nodes_from tab c k (suc m)) ≡ Ok tt → kind tab k ≡ 1 → (k < size_or_next tab k) × (size_or_next tab k ≤ c) × (size_or_next tab k ≤ top (shut k dirs))
+  says_at : (dirs : List ℕ) (k m : ℕ) → walk tab c dirs k (nodes_from tab c k (suc m)) ≡ Ok tt → kind tab k ≡ 1 → (k < size_or_next tab k) × (size_or_next tab k ≤ c) × (size_or_next tab k ≤ top (dirs_open_at k dirs))
   says_at dirs k m e h =
-      next-says c (shut k dirs) k (name_at tab c (name_offset tab k)) (size_or_next tab k) (rw (node-directory tab c k h) at (step-at dirs k m e).next)
+      next-says c (dirs_open_at k dirs) k (name_at tab c (name_offset tab k)) (size_or_next tab k) (rw (node-directory tab c k h) at (step-at dirs k m e).next)
 
   -- a directory that starts before b, which is the end of an open one, ends there or before
   bound : (b m k : ℕ) (dirs : List ℕ) → walk tab c dirs k (nodes_from tab c k m) ≡ Ok tt → Under b k dirs → (j : ℕ) → k ≤ j → j < k + m → j < b → kind tab j ≡ 1 → size_or_next tab j ≤ b
@@ -109,7 +109,7 @@ module _ (tab : List ℕ) (c : ℕ) where
   bound b (suc m) k dirs e u j p q r h =
       let s = step-at dirs k m e in
       ⊎_elim
-      (λ (l : k < j). bound b m (suc k) (enter (shut k dirs) (node_at tab c k)) s.rest (under-step b c k dirs (node_at tab c k) s.next u) j (omega arith) (omega arith) r h)
+      (λ (l : k < j). bound b m (suc k) (dirs_with (dirs_open_at k dirs) (node_at tab c k)) s.rest (under-step b c k dirs (node_at tab c k) s.next u) j (omega arith) (omega arith) r h)
       (λ (l : j ≤ k).
       let i : j ≡ k = omega arith in
       let d = says_at dirs k m e (rw i at h) in
@@ -121,18 +121,18 @@ module _ (tab : List ℕ) (c : ℕ) where
   nests (suc m) k dirs t e i p q h =
       let s = step-at dirs k m e in
       ⊎_elim
-      (λ (l : k < i). nests m (suc k) (enter (shut k dirs) (node_at tab c k)) (omega arith) s.rest i (omega arith) q h)
+      (λ (l : k < i). nests m (suc k) (dirs_with (dirs_open_at k dirs) (node_at tab c k)) (omega arith) s.rest i (omega arith) q h)
       (λ (l : i ≤ k).
       let z : k ≡ i = omega arith in
       let h' : kind tab k ≡ 1 = rw (sym z) at h in
       let d = says_at dirs k m e h' in
       let n : ℕ = size_or_next tab k in
-      let w : walk tab c (n ∷ shut k dirs) (suc k) (nodes_from tab c (suc k) m) ≡ Ok tt = rw (node-directory tab c k h') at s.rest in
+      let w : walk tab c (n ∷ dirs_open_at k dirs) (suc k) (nodes_from tab c (suc k) m) ≡ Ok tt = rw (node-directory tab c k h') at s.rest in
       let r : Nests tab c k =
       record {
         later = d.0;
         within = d.1;
-        inner = λ j x y g. bound n m (suc k) (n ∷ shut k dirs) w (λ a o b. rw (shut_open a n (shut k dirs) b) (omega arith)) j (omega arith) (omega (arith, d.1)) y g;
+        inner = λ j x y g. bound n m (suc k) (n ∷ dirs_open_at k dirs) w (λ a o b. rw (shut_open a n (dirs_open_at k dirs) b) (omega arith)) j (omega arith) (omega (arith, d.1)) y g;
       } in
       rw z at r)
       (lt-or-le k i)
@@ -142,7 +142,7 @@ module _ (tab : List ℕ) (c : ℕ) where
   names (suc m) k dirs e i p q =
       let s = step-at dirs k m e in
       ⊎_elim
-      (λ (l : k < i). names m (suc k) (enter (shut k dirs) (node_at tab c k)) s.rest i (omega arith) (omega arith))
+      (λ (l : k < i). names m (suc k) (dirs_with (dirs_open_at k dirs) (node_at tab c k)) s.rest i (omega arith) (omega arith))
       (λ (l : i ≤ k). let z : k ≡ i = omega arith in rw z at s.name)
       (lt-or-le k i)
 
@@ -159,7 +159,7 @@ pub record Tests (tab : List ℕ) : Type 0 where
   pub root : kind tab 0 ≡ 1
   pub few : count tab ≤ 16384
   pub entries : entries_verdict tab 1 (count tab - 1) ≡ Ok tt
-  pub last : unended tab (count tab) ≡ false
+  pub last : is_unended tab (count tab) ≡ false
   pub reach : 0 < size_or_next tab 0
   pub walked : walk tab (count tab) (count tab ∷ []) 1 (nodes_from tab (count tab) 1 (count tab - 1)) ≡ Ok tt
 
@@ -171,7 +171,7 @@ tests tab words e =
     let d = refuse-passed (eqb (kind tab 0) 0) RootIsNotDirectory _ b.1 in
     let f = refuse-passed (ltb 16384 (count tab)) LimitOrMemory _ d.1 in
     let g = first-passed (entries_verdict tab 1 (count tab - 1)) _ f.1 in
-    let h = refuse-passed (unended tab (count tab)) MissingNullTerminator _ g.1 in
+    let h = refuse-passed (is_unended tab (count tab)) MissingNullTerminator _ g.1 in
     let i = refuse-passed (ltb 1048576 (length tab - 12 * count tab)) LimitOrMemory _ h.1 in
     let j = refuse-passed (ltb words (4 * (count tab + 2))) LimitOrMemory _ i.1 in
     let k = refuse-passed (leb (size_or_next tab 0) 0) InvalidNextIndex _ j.1 in
@@ -222,5 +222,5 @@ accepted-valid tab words e =
       nested = λ i p h. ⊎_elim (λ (q : 0 < i). nests tab n (n - 1) 1 (n ∷ []) (omega arith) t.walked i (omega arith) p h) (λ (q : i ≤ 0). let z : 0 ≡ i = omega arith in rw (sym z) (root-nests tab r some t.walked)) (lt-or-le 0 i);
       named = λ i p q.
           let o = names tab n (n - 1) 1 (n ∷ []) t.walked i (omega arith) (omega arith) in
-          name-ends tab n i (omega arith) (not-unended tab n t.last (omega arith));
+          name-ends tab n i (omega arith) (not-is_unended tab n t.last (omega arith));
     }

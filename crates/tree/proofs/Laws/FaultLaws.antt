@@ -2,7 +2,7 @@
 use Prim.Native.Nat.{ℕ, zero, suc}
 use Rattle.std.specs.Prelude.{◌≡◌, refl, List, [], ◌∷◌, Some, is_some, is_err, Ok, Err, if◌then◌else◌}
 use Rattle.refusal.specs.Refusal.{Verdict, first}
-use Rattle.tree.specs.Table.{Node, name_of, entry_verdict, entries_verdict, shut, enter, name_verdict, next_verdict, walk}
+use Rattle.tree.specs.Table.{Node, name_of, entry_verdict, entries_verdict, dirs_open_at, dirs_with, name_verdict, next_verdict, walk}
 use Rattle.tree.specs.Faults.{first_refused, walk_refused}
 
 -- LAW: for its place or its kind
@@ -29,9 +29,9 @@ refused-cause tab k (suc n) j h = go (refused-cause tab (suc k) n j) (entry_verd
 pub walk-named : (tab : List ℕ) (c : ℕ) (dirs : List ℕ) (k : ℕ) (xs : List Node) → is_some (walk_refused tab c dirs k xs) ≡ is_err (walk tab c dirs k xs)
 unfolding walk_refused walk
 walk-named tab c dirs k [] = refl
-walk-named tab c dirs k (x ∷ xs) = go (walk-named tab c (enter (shut k dirs) x) (suc k) xs) (name_verdict tab c k (name_of x)) (next_verdict c (shut k dirs) k x)
+walk-named tab c dirs k (x ∷ xs) = go (walk-named tab c (dirs_with (dirs_open_at k dirs) x) (suc k) xs) (name_verdict tab c k (name_of x)) (next_verdict c (dirs_open_at k dirs) k x)
   where
-    go : is_some (walk_refused tab c (enter (shut k dirs) x) (suc k) xs) ≡ is_err (walk tab c (enter (shut k dirs) x) (suc k) xs) → (a b : Verdict) → is_some (if is_err (first a b) then Some k else walk_refused tab c (enter (shut k dirs) x) (suc k) xs) ≡ is_err (first a (first b (walk tab c (enter (shut k dirs) x) (suc k) xs)))
+    go : is_some (walk_refused tab c (dirs_with (dirs_open_at k dirs) x) (suc k) xs) ≡ is_err (walk tab c (dirs_with (dirs_open_at k dirs) x) (suc k) xs) → (a b : Verdict) → is_some (if is_err (first a b) then Some k else walk_refused tab c (dirs_with (dirs_open_at k dirs) x) (suc k) xs) ≡ is_err (first a (first b (walk tab c (dirs_with (dirs_open_at k dirs) x) (suc k) xs)))
     go later (Ok _) (Ok _) = later
     go later (Ok _) (Err r) = refl
     go later (Err r) b = refl

@@ -5,7 +5,7 @@ use Rattle.std.specs.Prelude.{◌≡◌, true, false, List, None, Some, is_err}
 use native.Mathlib.Omega.{arith}
 use Rattle.std.proofs.Math.Numerals.{add-one}
 use Rattle.refusal.specs.Refusal.{Verdict}
-use Rattle.tree.specs.Table.{node_at, nodes_from, entry_verdict, shut, enter}
+use Rattle.tree.specs.Table.{node_at, nodes_from, entry_verdict, dirs_open_at, dirs_with}
 use Rattle.tree.specs.Faults.{first_refused, walk_refused}
 use Rattle.tree.proofs.Laws.Steps.{walk_entry}
 
@@ -38,7 +38,7 @@ module _ (tab : List ℕ) (c : ℕ) (dirs : List ℕ) (k n : ℕ) where
       rw (s, ← q, e)
 
   pub stopped-later : (v : Verdict) → k < n → v ≡ walk_entry tab c dirs k (node_at tab c k) → is_err v ≡ false →
-      walk_refused tab c dirs k (nodes_from tab c k (n - k)) ≡ walk_refused tab c (enter (shut k dirs) (node_at tab c k)) (k + 1) (nodes_from tab c (k + 1) (n - (k + 1)))
+      walk_refused tab c dirs k (nodes_from tab c k (n - k)) ≡ walk_refused tab c (dirs_with (dirs_open_at k dirs) (node_at tab c k)) (k + 1) (nodes_from tab c (k + 1) (n - (k + 1)))
   unfolding walk_refused nodes_from
   stopped-later v h q e =
       let s : n - k ≡ suc (n - (k + 1)) = omega arith in

@@ -5,10 +5,10 @@ use Rattle.std.proofs.Common.{sym, ◌∙◌, inl, inr, arith}
 use mathlib.Core.List.{List, tail}
 use Rattle.refusal.specs.declared.Refusal.TheVariants.{LimitOrMemory}
 use Rattle.refusal.specs.Refusal.{refuse}
-use Rattle.tree.specs.Table.{Node, directory, name_of, none, texts_of, encode, shallow, limits}
+use Rattle.tree.specs.Table.{Node, directory, name_of, empty_root, texts_of, encode, is_shallow, limits}
 use Rattle.tree.specs.Inner.WellFormed.{IsGoodName, IsWellFormed}
 use Rattle.tree.specs.Insert.{insert_at}
-use Rattle.tree.proofs.Laws.InsertLaws.{Fresh, length-insert, insert-sound, insert-shallow}
+use Rattle.tree.proofs.Laws.InsertLaws.{Fresh, length-insert, insert-sound, insert-is_shallow}
 use Rattle.tree.proofs.Laws.InsertWalk.{depth_ok}
 use Rattle.tree.specs.Inner.Depths.{depth_of}
 use Rattle.refusal.specs.Laws.Tests.{and_right}
@@ -21,7 +21,7 @@ pub record Bigger (M F : List Node) : Type 0 where
   pub well : IsWellFormed F
   pub entries : length M ≤ length F
   pub texts : length (texts_of (tail M)) ≤ length (texts_of (tail F))
-  pub depth : shallow F ≡ true → shallow M ≡ true
+  pub depth : is_shallow F ≡ true → is_shallow M ≡ true
 
 pub bigger-same : (M : List Node) → IsWellFormed M → Bigger M M
 bigger-same M w = record { well = w; entries = omega arith; texts = omega arith; depth = λ e. e }
@@ -29,13 +29,13 @@ bigger-same M w = record { well = w; entries = omega arith; texts = omega arith;
 pub bigger-trans : (A B C : List Node) → Bigger A B → Bigger B C → Bigger A C
 bigger-trans A B C a b = record { well = b.well; entries = omega arith; texts = omega arith; depth = λ e. a.depth (b.depth e) }
 
-pub bigger-insert : (nodes : List Node) (p q : ℕ) (nm : List ℕ) (new : Node) → IsWellFormed nodes → get_or nodes p none ≡ directory nm q → p < length nodes → IsGoodName (name_of new) → Fresh q new →
+pub bigger-insert : (nodes : List Node) (p q : ℕ) (nm : List ℕ) (new : Node) → IsWellFormed nodes → get_or nodes p empty_root ≡ directory nm q → p < length nodes → IsGoodName (name_of new) → Fresh q new →
     Bigger nodes (insert_at p new nodes)
 bigger-insert nodes p q nm new w dir p<n named fresh = record {
   well = insert-sound nodes p q nm new w dir p<n named fresh;
   entries = omega (arith, length-insert nodes p q nm new w dir p<n);
   texts = omega (arith, texts-grow nodes p q nm new w dir p<n);
-  depth = λ e. and_right (depth_ok (suc (depth_of nodes p)) new) (shallow nodes) (sym (insert-shallow nodes p q nm new w dir p<n named fresh) ∙ e);
+  depth = λ e. and_right (depth_ok (suc (depth_of nodes p)) new) (is_shallow nodes) (sym (insert-is_shallow nodes p q nm new w dir p<n named fresh) ∙ e);
 }
 
 pub bigger-limits : (M F : List Node) (words : ℕ) → Bigger M F → limits F words ≡ Ok tt → limits M words ≡ Ok tt
@@ -49,7 +49,7 @@ bigger-encode M F b = omega (arith, length-encode M, length-encode F)
 -- the limits have one cause
 pub limits-either : (nodes : List Node) (words : ℕ) → (limits nodes words ≡ Ok tt) ⊎ (limits nodes words ≡ Err LimitOrMemory)
 unfolding limits
-limits-either nodes words = go (ltb 16384 (length nodes)) (ltb 1048576 (length (texts_of (tail nodes)))) (ltb words (4 * (length nodes + 2))) (not (shallow nodes))
+limits-either nodes words = go (ltb 16384 (length nodes)) (ltb 1048576 (length (texts_of (tail nodes)))) (ltb words (4 * (length nodes + 2))) (not (is_shallow nodes))
   where
     go : (a b c d : Bool) → (refuse a LimitOrMemory (refuse b LimitOrMemory (refuse c LimitOrMemory (refuse d LimitOrMemory (Ok tt)))) ≡ Ok tt) ⊎ (refuse a LimitOrMemory (refuse b LimitOrMemory (refuse c LimitOrMemory (refuse d LimitOrMemory (Ok tt)))) ≡ Err LimitOrMemory)
     go true b c d = inr refl

@@ -6,9 +6,9 @@ use borrow.Author.Tests.{ltb-true, eq-eqb, ne_eqb}
 use Rattle.refusal.specs.Laws.Tests.{lt-or-le}
 use Rattle.refusal.specs.declared.Refusal.{Refusal}
 use Rattle.refusal.specs.declared.Refusal.TheVariants.{NoSuchEntry, ExpectedDirectory, NotFound}
-use Rattle.tree.specs.Table.{Node, file, directory, none, parent_of}
+use Rattle.tree.specs.Table.{Node, file, directory, empty_root, parent_of}
 use Rattle.tree.specs.Inner.WellFormed.{IsWellFormed}
-use Rattle.tree.specs.Lookup.{is_directory, components, child_of, stays, goes_back, and_then, step_back, follow, lookup}
+use Rattle.tree.specs.Lookup.{is_directory, components, child_of, is_staying, is_going_back, and_then, step_back, follow, lookup}
 use Rattle.tree.proofs.Laws.Nesting.{parent-before, parent-root}
 use Rattle.tree.proofs.Laws.WellNested.{next-bounds}
 use Rattle.tree.proofs.Laws.Children.{Child, child-is}
@@ -18,9 +18,9 @@ use Rattle.tree.proofs.Laws.Children.{Child, child-is}
 unfoldable pub follow_up : List Node → ℕ → ℕ → List (List ℕ) → Result ℕ Refusal
 follow_up nodes start k [] = Ok k
 follow_up nodes start k (c ∷ cs) =
-    cond (is_directory (get_or nodes k none))
-    (cond (stays c) (follow_up nodes start k cs)
-    (cond (goes_back c) (cond (eqb k start) (Err NotFound) (follow_up nodes start (parent_of nodes k) cs))
+    cond (is_directory (get_or nodes k empty_root))
+    (cond (is_staying c) (follow_up nodes start k cs)
+    (cond (is_going_back c) (cond (eqb k start) (Err NotFound) (follow_up nodes start (parent_of nodes k) cs))
     (and_then (child_of nodes k c) (λ j. follow_up nodes start j cs))))
     (Err ExpectedDirectory)
 
@@ -62,29 +62,29 @@ lookup-up nodes start path = rw (follow-up nodes start (components path) [] star
 -- ---- one turn of a loop over the parts
 
 module _ (nodes : List Node) (start k : ℕ) (c : List ℕ) (cs : List (List ℕ)) where
-  pub up-file : is_directory (get_or nodes k none) ≡ false → follow_up nodes start k (c ∷ cs) ≡ Err ExpectedDirectory
+  pub up-file : is_directory (get_or nodes k empty_root) ≡ false → follow_up nodes start k (c ∷ cs) ≡ Err ExpectedDirectory
   unfolding follow_up
   up-file d = rw d
 
-  module _ (d : is_directory (get_or nodes k none) ≡ true) where
-    pub up-stays : stays c ≡ true → follow_up nodes start k (c ∷ cs) ≡ follow_up nodes start k cs
+  module _ (d : is_directory (get_or nodes k empty_root) ≡ true) where
+    pub up-stays : is_staying c ≡ true → follow_up nodes start k (c ∷ cs) ≡ follow_up nodes start k cs
     unfolding follow_up
     up-stays s = rw (d, s)
 
-    module _ (s : stays c ≡ false) where
-      pub up-no-back : goes_back c ≡ true → k ≡ start → follow_up nodes start k (c ∷ cs) ≡ Err NotFound
+    module _ (s : is_staying c ≡ false) where
+      pub up-no-back : is_going_back c ≡ true → k ≡ start → follow_up nodes start k (c ∷ cs) ≡ Err NotFound
       unfolding follow_up
       up-no-back b e = rw (d, s, b, eq-eqb k start e)
 
-      pub up-back : goes_back c ≡ true → (k ≡ start → ⊥) → follow_up nodes start k (c ∷ cs) ≡ follow_up nodes start (parent_of nodes k) cs
+      pub up-back : is_going_back c ≡ true → (k ≡ start → ⊥) → follow_up nodes start k (c ∷ cs) ≡ follow_up nodes start (parent_of nodes k) cs
       unfolding follow_up
       up-back b e = rw (d, s, b, ne_eqb k start e)
 
-      pub up-missing : goes_back c ≡ false → (r : Refusal) → child_of nodes k c ≡ Err r → follow_up nodes start k (c ∷ cs) ≡ Err r
+      pub up-missing : is_going_back c ≡ false → (r : Refusal) → child_of nodes k c ≡ Err r → follow_up nodes start k (c ∷ cs) ≡ Err r
       unfolding follow_up
       up-missing b r e = rw (d, s, b, e)
 
-      pub up-child : goes_back c ≡ false → (j : ℕ) → child_of nodes k c ≡ Ok j → follow_up nodes start k (c ∷ cs) ≡ follow_up nodes start j cs
+      pub up-child : is_going_back c ≡ false → (j : ℕ) → child_of nodes k c ≡ Ok j → follow_up nodes start k (c ∷ cs) ≡ follow_up nodes start j cs
       unfolding follow_up
       up-child b j e = rw (d, s, b, e)
 
@@ -95,9 +95,9 @@ up-end nodes start k = refl
 -- ---- what is found is an entry of the tree
 
 pub child-inside : (nodes : List Node) (d : ℕ) (nm : List ℕ) (k : ℕ) → IsWellFormed nodes → d < length nodes → child_of nodes d nm ≡ Ok k → k < length nodes
-child-inside nodes d nm k w h e = go (get_or nodes d none) refl
+child-inside nodes d nm k w h e = go (get_or nodes d empty_root) refl
   where
-    go : (x : Node) → get_or nodes d none ≡ x → k < length nodes
+    go : (x : Node) → get_or nodes d empty_root ≡ x → k < length nodes
     go (file a b c) q = absurd (omega (arith, rw q at (child-is nodes d nm k e).before))
     go (directory a n) q =
         let b : k < n = rw q at (child-is nodes d nm k e).before in
@@ -107,7 +107,7 @@ up-inside : (nodes : List Node) (start : ℕ) (cs : List (List ℕ)) (k j : ℕ)
 unfolding follow_up
 up-inside nodes start [] k j w h e = let k≡ : k ≡ j = cc in omega arith
 up-inside nodes start (c ∷ cs) k j w h e =
-    go (is_directory (get_or nodes k none)) (stays c) (goes_back c) (eqb k start) (child_of nodes k c) refl (λ i l q. up-inside nodes start cs i j w l q) e
+    go (is_directory (get_or nodes k empty_root)) (is_staying c) (is_going_back c) (eqb k start) (child_of nodes k c) refl (λ i l q. up-inside nodes start cs i j w l q) e
   where
     lower : parent_of nodes k < length nodes
     lower = ⊎_elim (λ (l : 0 < k). omega (arith, parent-before nodes k l)) (λ (l : k ≤ 0). let k≡ : k ≡ 0 = omega arith in rw k≡ (root-parent (rw k≡ at h))) (lt-or-le 0 k)

@@ -3,7 +3,7 @@ use Rattle.std.specs.Prelude.{Err}
 use Rattle.std.specs.Prelude.{ℕ, ◌+◌, ◌-◌, ◌*◌, ◌<◌, ◌≤◌, ◌≡◌, true, false, List, length}
 use borrow.Author.Tests.{lt-ltb, le-ltb, le-leb, lt-leb}
 use Rattle.refusal.specs.declared.Refusal.TheVariants.{EntryPastTable, LimitOrMemory, InvalidNextIndex, InvalidNameOffset, InvalidNameByte, UnsafeName}
-use Rattle.tree.specs.Table.{directory, plain, safe, kind, name_offset, count, entry_verdict, top, name_verdict, next_verdict, check}
+use Rattle.tree.specs.Table.{directory, is_plain, is_safe, kind, name_offset, count, entry_verdict, top, name_verdict, next_verdict, check}
 
 -- 5 before 6
 pub past-table : (tab : List ℕ) (k : ℕ) → length tab < 12 * k + 12 → entry_verdict tab k ≡ Err EntryPastTable
@@ -21,11 +21,11 @@ module _ (tab : List ℕ) (c k : ℕ) (nm : List ℕ) where
   unfolding name_verdict
   bad-offset h = rw (le-leb (length tab - 12 * c) (name_offset tab k) h)
 
-  pub bad-byte : name_offset tab k < length tab - 12 * c → plain nm ≡ false → name_verdict tab c k nm ≡ Err InvalidNameByte
+  pub bad-byte : name_offset tab k < length tab - 12 * c → is_plain nm ≡ false → name_verdict tab c k nm ≡ Err InvalidNameByte
   unfolding name_verdict
   bad-byte h e = rw (lt-leb (length tab - 12 * c) (name_offset tab k) h, e)
 
-  pub bad-name : name_offset tab k < length tab - 12 * c → plain nm ≡ true → safe nm ≡ false → name_verdict tab c k nm ≡ Err UnsafeName
+  pub bad-name : name_offset tab k < length tab - 12 * c → is_plain nm ≡ true → is_safe nm ≡ false → name_verdict tab c k nm ≡ Err UnsafeName
   unfolding name_verdict
   bad-name h e s = rw (lt-leb (length tab - 12 * c) (name_offset tab k) h, e, s)
 

@@ -10,13 +10,13 @@ use Rattle.std.proofs.Math.ListN.{length, take, drop, length-append}
 use Rattle.std.proofs.Math.Dec.{ltb, eqb}
 use Rattle.endian.specs.Bytes.{be32_bytes, put}
 use Rattle.refusal.specs.Laws.Tests.{lt-or-le}
-use Rattle.tree.specs.Table.{Node, file, directory, name_of, none, name_offset, size_or_next, node_bytes, parent_of, texts_of, encode}
+use Rattle.tree.specs.Table.{Node, file, directory, name_of, empty_root, name_offset, size_or_next, node_bytes, parent_of, texts_of, encode}
 use Rattle.tree.specs.Inner.WellFormed.{IsWellFormed}
 use Rattle.tree.specs.Lookup.{next_of}
 use Rattle.tree.proofs.Laws.WellNested.{next-bounds}
-use Rattle.tree.specs.Insert.{node_before, node_after, splice, insert_at, shifted, placed, set_place}
+use Rattle.tree.specs.Insert.{node_before, node_after, splice, insert_at, number_after_insert, node_at_place, set_place}
 use Rattle.tree.proofs.Laws.InsertLaws.{Fresh, name_of-node_after, name_of-node_before, length-insert, insert-before, insert-at, insert-after, parent-insert-before, parent-insert-at, parent-insert-after}
-use Rattle.tree.proofs.Laws.PlaceLaws.{name-placed, length-set_place, set_place-at, set_place-other, parent-set_place, texts-set_place}
+use Rattle.tree.proofs.Laws.PlaceLaws.{name-node_at_place, length-set_place, set_place-at, set_place-other, parent-set_place, texts-set_place}
 use Rattle.tree.proofs.Laws.WrittenEntries.{length-encode}
 use Rattle.tree.specs.Inner.Patch.{records, place_patch, record_before, record_after, patched_record, new_start, insert_patch}
 use Rattle.tree.proofs.Laws.Records.{records-ext, records-at, length-records, put-middle}
@@ -24,11 +24,11 @@ use Rattle.tree.proofs.Laws.Writing.{texts-append, text_start, start-end, entry_
 
 -- ---- a file's place
 
-texts-set : (offset size : ℕ) (xs : List Node) (i j : ℕ) → texts_of (take j (set xs i (placed offset size (get_or xs i none)))) ≡ texts_of (take j xs)
+texts-set : (offset size : ℕ) (xs : List Node) (i j : ℕ) → texts_of (take j (set xs i (node_at_place offset size (get_or xs i empty_root)))) ≡ texts_of (take j xs)
 unfolding texts_of
 texts-set offset size [] i j = refl
 texts-set offset size (x ∷ xs) i zero = refl
-texts-set offset size (x ∷ xs) zero (suc j) = rw (name-placed offset size x)
+texts-set offset size (x ∷ xs) zero (suc j) = rw (name-node_at_place offset size x)
 texts-set offset size (x ∷ xs) (suc i) (suc j) = rw (texts-set offset size xs i j)
 
 start-set_place : (offset size k m : ℕ) (nodes : List Node) → text_start (set_place k offset size nodes) m ≡ text_start nodes m
@@ -39,11 +39,11 @@ start-set_place offset size (suc i) m (r ∷ xs) = ap length (texts-set offset s
 
 -- the record of a file, with its place written over
 file-patched : (p o offset size : ℕ) (x : Node) (nm : List ℕ) (a b : ℕ) → x ≡ file nm a b →
-    put (node_bytes p o x) 4 (be32_bytes offset ++ be32_bytes size) ≡ node_bytes p o (placed offset size x)
+    put (node_bytes p o x) 4 (be32_bytes offset ++ be32_bytes size) ≡ node_bytes p o (node_at_place offset size x)
 unfolding put
 file-patched p o offset size x nm a b e = rw e
 
-module _ (offset size k : ℕ) (nodes : List Node) (nm : List ℕ) (a b : ℕ) (here : get_or nodes k none ≡ file nm a b) (h : k < length nodes) where
+module _ (offset size k : ℕ) (nodes : List Node) (nm : List ℕ) (a b : ℕ) (here : get_or nodes k empty_root ≡ file nm a b) (h : k < length nodes) where
   other-record : (j : ℕ) → (j ≡ k → ⊥) → entry_bytes nodes j ≡ entry_bytes (set_place k offset size nodes) j
   unfolding entry_bytes
   other-record j n = rw (parent-set_place offset size k j nodes, start-set_place offset size k j nodes, set_place-other offset size k j nodes n)
@@ -52,7 +52,7 @@ module _ (offset size k : ℕ) (nodes : List Node) (nm : List ℕ) (a b : ℕ) (
   unfolding entry_bytes
   this-record =
       rw (parent-set_place offset size k k nodes, start-set_place offset size k k nodes, set_place-at offset size k nodes h)
-      (file-patched (parent_of nodes k) (text_start nodes k) offset size (get_or nodes k none) nm a b here)
+      (file-patched (parent_of nodes k) (text_start nodes k) offset size (get_or nodes k empty_root) nm a b here)
 
   pub place-patched : place_patch (encode nodes) k offset size ≡ encode (set_place k offset size nodes)
   place-patched =
@@ -125,7 +125,7 @@ unfolding record_before
 before-read tab p k par o (file nm offset size) f = rw (f.0, f.1, f.2, f.3)
 before-read tab p k par o (directory nm next) f = rw (f.0, f.1, f.2, f.3)
 
-after_read : (tab : List ℕ) (q grow k par o : ℕ) (x : Node) → Fields tab k par o x → record_after tab q grow k ≡ node_bytes (shifted q par) (o + grow) (node_after x)
+after_read : (tab : List ℕ) (q grow k par o : ℕ) (x : Node) → Fields tab k par o x → record_after tab q grow k ≡ node_bytes (number_after_insert q par) (o + grow) (node_after x)
 unfolding record_after
 after_read tab q grow k par o (file nm offset size) f = rw (f.0, f.1, f.2, f.3)
 after_read tab q grow k par o (directory nm next) f = rw (f.0, f.1, f.2, f.3)
@@ -138,7 +138,7 @@ pub next-read : (tab : List ℕ) (k par o n : ℕ) (nm : List ℕ) (x : Node) �
 next-read tab k par o n nm (file a b c) f e = let z : ◌≡◌ {A = ℕ} 0 1 = cc in absurd (omega arith)
 next-read tab k par o n nm (directory a m) f e = f.3 ∙ ap next_of e
 
-module _ (nodes : List Node) (p q : ℕ) (nm : List ℕ) (new : Node) (w : IsWellFormed nodes) (here : get_or nodes p none ≡ directory nm q) (p<n : p < length nodes) (fresh : Fresh q new)
+module _ (nodes : List Node) (p q : ℕ) (nm : List ℕ) (new : Node) (w : IsWellFormed nodes) (here : get_or nodes p empty_root ≡ directory nm q) (p<n : p < length nodes) (fresh : Fresh q new)
     (few : length nodes < 2 ^ 32) (short : length (texts_of (tail nodes)) < 2 ^ 24) where
   abbrev N : List Node
   N = insert_at p new nodes
@@ -152,11 +152,11 @@ module _ (nodes : List Node) (p q : ℕ) (nm : List ℕ) (new : Node) (w : IsWel
   q≤n : q ≤ length nodes
   q≤n = (next-bounds nodes p q nm w here p<n).1
 
-  fields : (k : ℕ) → k < length nodes → Fields (encode nodes) k (parent_of nodes k) (text_start nodes k) (get_or nodes k none)
+  fields : (k : ℕ) → k < length nodes → Fields (encode nodes) k (parent_of nodes k) (text_start nodes k) (get_or nodes k empty_root)
   fields k h = written-fields nodes k w few short h
 
   next-is : size_or_next (encode nodes) p ≡ q
-  next-is = next-read (encode nodes) p (parent_of nodes p) (text_start nodes p) q nm (get_or nodes p none) (fields p p<n) here
+  next-is = next-read (encode nodes) p (parent_of nodes p) (text_start nodes p) q nm (get_or nodes p empty_root) (fields p p<n) here
 
   -- the entries past the root
   tail-insert : tail N ≡ splice p new 1 (q - 1) (tail nodes)
@@ -191,7 +191,7 @@ module _ (nodes : List Node) (p q : ℕ) (nm : List ℕ) (new : Node) (w : IsWel
   start-new = go (ltb q (length nodes)) refl
     where
       go : (t : Bool) → ltb q (length nodes) ≡ t → cond t (name_offset (encode nodes) q) (length (encode nodes) - 12 * length nodes) ≡ text_start nodes q
-      go true e = offset_read (encode nodes) q (parent_of nodes q) (text_start nodes q) (get_or nodes q none) (fields q (ltb-true q (length nodes) e))
+      go true e = offset_read (encode nodes) q (parent_of nodes q) (text_start nodes q) (get_or nodes q empty_root) (fields q (ltb-true q (length nodes) e))
       go false e =
           let q≡ : q ≡ length nodes = omega (arith, ltb-false q (length nodes) e, q≤n) in
           rw (q≡, start-end nodes) (omega (arith, length-encode nodes))
@@ -202,20 +202,20 @@ module _ (nodes : List Node) (p q : ℕ) (nm : List ℕ) (new : Node) (w : IsWel
   record_is k h = go (ltb k q) refl (eqb k q) refl
     where
       go : (t : Bool) → ltb k q ≡ t → (u : Bool) → eqb k q ≡ u →
-          cond t (record_before (encode nodes) p k) (cond u (node_bytes p (text_start nodes q) new) (record_after (encode nodes) q grow (k - 1))) ≡ node_bytes (parent_of N k) (text_start N k) (get_or N k none)
+          cond t (record_before (encode nodes) p k) (cond u (node_bytes p (text_start nodes q) new) (record_after (encode nodes) q grow (k - 1))) ≡ node_bytes (parent_of N k) (text_start N k) (get_or N k empty_root)
       go true e u e' =
           let l : k < q = ltb-true k q e in
           rw (parent-insert-before nodes p q nm new w here p<n k l, start-before k (omega arith), insert-before nodes p q nm new w here p<n k l)
-          (before-read (encode nodes) p k (parent_of nodes k) (text_start nodes k) (get_or nodes k none) (fields k (omega (arith, q≤n))))
+          (before-read (encode nodes) p k (parent_of nodes k) (text_start nodes k) (get_or nodes k empty_root) (fields k (omega (arith, q≤n))))
       go false e true e' =
           let k≡ : k ≡ q = eqb-true k q e' in
           rw (k≡, parent-insert-at nodes p q nm new w here p<n, start-before q (omega arith), insert-at nodes p q nm new w here p<n)
       go false e false e' = past (k - 1) (omega (arith, ltb-false k q e, other k q (ltb-false k q e) (eqb-false k q e'), p<q)) (omega (arith, ltb-false k q e, other k q (ltb-false k q e) (eqb-false k q e')))
         where
-          past : (j : ℕ) → k ≡ suc j → q ≤ j → record_after (encode nodes) q grow j ≡ node_bytes (parent_of N k) (text_start N k) (get_or N k none)
+          past : (j : ℕ) → k ≡ suc j → q ≤ j → record_after (encode nodes) q grow j ≡ node_bytes (parent_of N k) (text_start N k) (get_or N k empty_root)
           past j k≡ l =
               rw (k≡, parent-insert-after nodes p q nm new w here p<n fresh j l (omega arith), start-after j l, insert-after nodes p q nm new w here p<n j l (omega arith))
-              (after_read (encode nodes) q grow j (parent_of nodes j) (text_start nodes j) (get_or nodes j none) (fields j (omega arith)))
+              (after_read (encode nodes) q grow j (parent_of nodes j) (text_start nodes j) (get_or nodes j empty_root) (fields j (omega arith)))
 
   pub insert-patched : insert_patch (encode nodes) (length nodes) p new ≡ encode (insert_at p new nodes)
   unfolding insert_patch

@@ -5,12 +5,12 @@ use Rattle.std.specs.Prelude.{ℕ, ◌<◌, ◌≤◌, ◌≡◌, refl, Bool, tr
 use Rattle.std.proofs.Common.{ap, ◌∙◌, arith, ltb-true, lt-ltb, eqb-true}
 use Rattle.std.proofs.lemmas.Bool.{eqb-false}
 use Rattle.refusal.specs.declared.Refusal.TheVariants.{NoSuchEntry, ExpectedDirectory}
-use Rattle.tree.specs.Table.{Node, file, directory, none}
-use Rattle.tree.specs.Lookup.{is_directory, next_of, child_of, stays, goes_back, and_then, step_back, follow, components, lookup}
-use Rattle.tree.specs.Insert.{insert_at, shifted}
-use Rattle.tree.proofs.Laws.InsertedList.{IsNested, Fresh, shifted-min, length_inserted, p<q}
+use Rattle.tree.specs.Table.{Node, file, directory, empty_root}
+use Rattle.tree.specs.Lookup.{is_directory, next_of, child_of, is_staying, is_going_back, and_then, step_back, follow, components, lookup}
+use Rattle.tree.specs.Insert.{insert_at, number_after_insert}
+use Rattle.tree.proofs.Laws.InsertedList.{IsNested, Fresh, number_after_insert-min, length_inserted, p<q}
 use Rattle.tree.proofs.Laws.Children.{Child, child-is}
-use Rattle.tree.proofs.Laws.ChildInsert.{moved, shifted-low, kept-kind, child-moved, child-kept}
+use Rattle.tree.proofs.Laws.ChildInsert.{moved, number_after_insert-low, kept-kind, child-moved, child-kept}
 
 pub directory-is : (x : Node) → is_directory x ≡ true → (nm : List ℕ) × (x ≡ directory nm (next_of x))
 directory-is (file nm a b) e = let z : ◌≡◌ {A = ℕ} 0 1 = cc in absurd (omega arith)
@@ -19,7 +19,7 @@ directory-is (directory nm n) e = (nm, refl)
 -- entry k of M is entry φ k of F: of the same kind, and a child that is found under a name is found under it there
 pub record Renumbered (M F : List Node) (φ : ℕ → ℕ) : Type 0 where
   pub inside : (k : ℕ) → k < length M → φ k < length F
-  pub kinds : (k : ℕ) → k < length M → is_directory (get_or F (φ k) none) ≡ is_directory (get_or M k none)
+  pub kinds : (k : ℕ) → k < length M → is_directory (get_or F (φ k) empty_root) ≡ is_directory (get_or M k empty_root)
   pub children : (d : ℕ) (c : List ℕ) (j : ℕ) → d < length M → child_of M d c ≡ Ok j → child_of F (φ d) c ≡ Ok (φ j)
 
 pub renumbered-same : (M : List Node) → Renumbered M M (λ k. k)
@@ -33,20 +33,20 @@ renumbered-then A B C φ ψ r s = record {
 }
 
 -- LAW: an insert
-pub renumbered-insert : (nodes : List Node) (p q : ℕ) (nm : List ℕ) (new : Node) → IsNested nodes → get_or nodes p none ≡ directory nm q → p < length nodes → Fresh q new →
-    Renumbered nodes (insert_at p new nodes) (shifted q)
+pub renumbered-insert : (nodes : List Node) (p q : ℕ) (nm : List ℕ) (new : Node) → IsNested nodes → get_or nodes p empty_root ≡ directory nm q → p < length nodes → Fresh q new →
+    Renumbered nodes (insert_at p new nodes) (number_after_insert q)
 renumbered-insert nodes p q nm new w dir p<n fresh = record {
-  inside = λ k h. omega (arith, length_inserted nodes p q nm new w dir p<n, shifted-min q k);
+  inside = λ k h. omega (arith, length_inserted nodes p q nm new w dir p<n, number_after_insert-min q k);
   kinds = λ k h. kept-kind nodes p q nm new w dir p<n fresh k h;
   children = λ d c j h e. child d c j h e (eqb d p) refl;
 }
   where
-    child : (d : ℕ) (c : List ℕ) (j : ℕ) → d < length nodes → child_of nodes d c ≡ Ok j → (t : Bool) → eqb d p ≡ t → child_of (insert_at p new nodes) (shifted q d) c ≡ Ok (shifted q j)
+    child : (d : ℕ) (c : List ℕ) (j : ℕ) → d < length nodes → child_of nodes d c ≡ Ok j → (t : Bool) → eqb d p ≡ t → child_of (insert_at p new nodes) (number_after_insert q d) c ≡ Ok (number_after_insert q j)
     child d c j h e true t =
         let d≡ : d ≡ p = eqb-true d p t in
         let e' : child_of nodes p c ≡ Ok j = rw d≡ at e in
         let l : j < q = rw dir at (child-is nodes p c j e').before in
-        rw (d≡, shifted-low q p (p<q nodes p q nm new w dir p<n), shifted-low q j l) (child-kept nodes p q nm new w dir p<n fresh c j e')
+        rw (d≡, number_after_insert-low q p (p<q nodes p q nm new w dir p<n), number_after_insert-low q j l) (child-kept nodes p q nm new w dir p<n fresh c j e')
     child d c j h e false t = child-moved nodes p q nm new w dir p<n fresh d h c (eqb-false d p t) ∙ ap (moved q) e
 
 -- the entries of a walk's trail stand one before the other, down to its start
@@ -58,7 +58,7 @@ pub from_start : (start : ℕ) (trail : List ℕ) (k : ℕ) → Falling start tr
 from_start start [] k f = omega arith
 from_start start (j ∷ trail) k f = omega (arith, from_start start trail j f.1)
 
-pub child-within : (nodes : List Node) (d : ℕ) (c : List ℕ) (j : ℕ) → IsNested nodes → d < length nodes → is_directory (get_or nodes d none) ≡ true → child_of nodes d c ≡ Ok j → (d < j) × (j < length nodes)
+pub child-within : (nodes : List Node) (d : ℕ) (c : List ℕ) (j : ℕ) → IsNested nodes → d < length nodes → is_directory (get_or nodes d empty_root) ≡ true → child_of nodes d c ≡ Ok j → (d < j) × (j < length nodes)
 child-within nodes d c j n h k e = let x : Child nodes d c j = child-is nodes d c j e in (x.after, omega (arith, (n.bounds d h k).1, x.before))
 
 -- LAW: a path that leads to j leads to φ j
@@ -67,9 +67,9 @@ pub followed : (M F : List Node) (φ : ℕ → ℕ) (start : ℕ) → IsNested M
 unfolding follow
 followed M F φ start n r [] trail k j h f e = let k≡ : k ≡ j = cc in rw k≡
 followed M F φ start n r (c ∷ cs) trail k j h f e =
-    rw (r.kinds k h) (go (is_directory (get_or M k none)) refl (stays c) (goes_back c) trail f (child_of M k c) refl (λ t i. followed M F φ start n r cs t i j) e)
+    rw (r.kinds k h) (go (is_directory (get_or M k empty_root)) refl (is_staying c) (is_going_back c) trail f (child_of M k c) refl (λ t i. followed M F φ start n r cs t i j) e)
   where
-    go : (d : Bool) → is_directory (get_or M k none) ≡ d → (s b : Bool) (t : List ℕ) → Falling start t k → (a : Result ℕ Refusal) → child_of M k c ≡ a →
+    go : (d : Bool) → is_directory (get_or M k empty_root) ≡ d → (s b : Bool) (t : List ℕ) → Falling start t k → (a : Result ℕ Refusal) → child_of M k c ≡ a →
         ((t : List ℕ) (i : ℕ) → i < length M → Falling start t i → follow M t i cs ≡ Ok j → follow F (map φ t) (φ i) cs ≡ Ok (φ j)) →
         cond d (cond s (follow M t k cs) (cond b (step_back t (λ i rest. follow M rest i cs)) (and_then a (λ i. follow M (k ∷ t) i cs)))) (Err ExpectedDirectory) ≡ Ok j →
         cond d (cond s (follow F (map φ t) (φ k) cs) (cond b (step_back (map φ t) (λ i rest. follow F rest i cs)) (and_then (child_of F (φ k) c) (λ i. follow F (φ k ∷ map φ t) i cs)))) (Err ExpectedDirectory) ≡ Ok (φ j)

@@ -13,9 +13,9 @@ use Rattle.endian.specs.Laws.Stored.{be32-value}
 use Rattle.refusal.specs.declared.Refusal.TheVariants.{LimitOrMemory}
 use Rattle.refusal.specs.Refusal.{refuse}
 use Rattle.refusal.specs.Laws.Chains.{refuse-passed}
-use Rattle.tree.specs.Table.{Node, directory, kind, size_or_next, count, nodes_from, nodes_of, entries_verdict, walk, check, node_bytes, entries_bytes, texts_of, encode, shallow_from, shallow, limits}
+use Rattle.tree.specs.Table.{Node, directory, kind, size_or_next, count, nodes_from, nodes_of, entries_verdict, walk, check, node_bytes, entries_bytes, texts_of, encode, is_shallow_from, is_shallow, limits}
 use Rattle.tree.specs.Inner.WellFormed.{IsSound, IsWellFormed}
-use Rattle.tree.proofs.Laws.WrittenEntries.{length-entries_bytes, length-encode, entries-accepted, Reads, reads, reads-nodes, reads-walk, last-append, last-text, not-unended}
+use Rattle.tree.proofs.Laws.WrittenEntries.{length-entries_bytes, length-encode, entries-accepted, Reads, reads, reads-nodes, reads-walk, last-append, last-text, not-is_unended}
 
 -- ---- the whole table, of the root and the entries xs
 
@@ -69,7 +69,7 @@ module _ (xs : List Node) (few : suc (length xs) < 2 ^ 32) where
     back texts = rw (tab-count, pred-count) (ap (λ (l : List Node). directory [] (suc (length xs)) ∷ l) (reads-nodes tab (suc (length xs)) 1 xs (tab-reads texts)))
 
     judged : (words : ℕ) → check tab words ≡ limits (whole xs) words
-    unfolding check limits shallow
+    unfolding check limits is_shallow
     judged words =
         simp (
           tab-count,
@@ -77,7 +77,7 @@ module _ (xs : List Node) (few : suc (length xs) < 2 ^ 32) where
           tab-kind,
           pred-count,
           tab-entries,
-          not-unended tab (suc (length xs)) tab-last,
+          not-is_unended tab (suc (length xs)) tab-last,
           texts-length,
           tab-next,
           lt-leb (suc (length xs)) 0 (omega arith),
@@ -86,7 +86,7 @@ module _ (xs : List Node) (few : suc (length xs) < 2 ^ 32) where
       where
         go : (t : Bool) → ltb 1048576 (length (texts_of xs)) ≡ t →
             refuse t LimitOrMemory (refuse (ltb words (4 * (suc (length xs) + 2))) LimitOrMemory (walk tab (suc (length xs)) (suc (length xs) ∷ []) 1 (nodes_from tab (suc (length xs)) 1 (length xs)))) ≡
-            refuse t LimitOrMemory (refuse (ltb words (4 * (suc (length xs) + 2))) LimitOrMemory (refuse (not (shallow_from (suc (length xs) ∷ []) 1 xs)) LimitOrMemory (Ok tt)))
+            refuse t LimitOrMemory (refuse (ltb words (4 * (suc (length xs) + 2))) LimitOrMemory (refuse (not (is_shallow_from (suc (length xs) ∷ []) 1 xs)) LimitOrMemory (Ok tt)))
         go true e = refl
         go false e =
             let h : length (texts_of xs) ≤ 1048576 = ltb-false 1048576 (length (texts_of xs)) e in
@@ -107,7 +107,7 @@ pub record Within (nodes : List Node) (words : ℕ) : Type 0 where
   pub few : length nodes ≤ 16384
   pub texts : length (texts_of (tail nodes)) ≤ 2 ^ 20
   pub room : 4 * (length nodes + 2) ≤ words
-  pub depth : shallow nodes ≡ true
+  pub depth : is_shallow nodes ≡ true
 
 pub within-limits : (nodes : List Node) (words : ℕ) → limits nodes words ≡ Ok tt → Within nodes words
 unfolding limits
@@ -115,8 +115,8 @@ within-limits nodes words e =
     let e₁ = refuse-passed (ltb 16384 (length nodes)) LimitOrMemory _ e in
     let e₂ = refuse-passed (ltb 1048576 (length (texts_of (tail nodes)))) LimitOrMemory _ e₁.1 in
     let e₃ = refuse-passed (ltb words (4 * (length nodes + 2))) LimitOrMemory _ e₂.1 in
-    let e₄ = refuse-passed (not (shallow nodes)) LimitOrMemory _ e₃.1 in
-    record { few = ltb-false _ _ e₁.0; texts = ltb-false _ _ e₂.0; room = ltb-false _ _ e₃.0; depth = not-false (shallow nodes) e₄.0 }
+    let e₄ = refuse-passed (not (is_shallow nodes)) LimitOrMemory _ e₃.1 in
+    record { few = ltb-false _ _ e₁.0; texts = ltb-false _ _ e₂.0; room = ltb-false _ _ e₃.0; depth = not-false (is_shallow nodes) e₄.0 }
 
 pub limits-within : (nodes : List Node) (words : ℕ) → Within nodes words → limits nodes words ≡ Ok tt
 unfolding limits

@@ -2,7 +2,7 @@
 use Rattle.std.specs.Prelude.{ℕ, suc, ◌+◌, ◌-◌, ◌*◌, ◌<◌, ◌≡◌, length, get_or, take, drop}
 use Rattle.std.proofs.Common.{sym, ap, ◌∙◌, arith, length-append, take-append-drop}
 use mathlib.Core.List.{List, ◌∷◌, ◌++◌, tail}
-use Rattle.tree.specs.Table.{Node, directory, name_of, none, texts_of, encode}
+use Rattle.tree.specs.Table.{Node, directory, name_of, empty_root, texts_of, encode}
 use Rattle.tree.specs.Inner.WellFormed.{IsWellFormed}
 use Rattle.tree.specs.Insert.{splice, insert_at}
 use Rattle.tree.proofs.Laws.InsertLaws.{length-insert}
@@ -20,7 +20,7 @@ size_to nodes k = 12 * k + text_start nodes k
 pub size-root : (nodes : List Node) → size_to nodes 1 ≡ 12
 size-root nodes = omega (arith, start_first nodes)
 
-pub size-next : (nodes : List Node) (k : ℕ) → 0 < k → k < length nodes → size_to nodes (k + 1) ≡ size_to nodes k + (12 + length (name_of (get_or nodes k none)) + 1)
+pub size-next : (nodes : List Node) (k : ℕ) → 0 < k → k < length nodes → size_to nodes (k + 1) ≡ size_to nodes k + (12 + length (name_of (get_or nodes k empty_root)) + 1)
 size-next nodes k h l = omega (arith, start-next nodes k h l)
 
 pub size-whole : (nodes : List Node) → size_to nodes (length nodes) ≡ length (encode nodes)
@@ -28,7 +28,7 @@ size-whole nodes = omega (arith, start-end nodes, length-encode nodes)
 
 -- ---- one entry more
 
-module _ (nodes : List Node) (p q : ℕ) (nm : List ℕ) (new : Node) (w : IsWellFormed nodes) (dir : get_or nodes p none ≡ directory nm q) (p<n : p < length nodes) where
+module _ (nodes : List Node) (p q : ℕ) (nm : List ℕ) (new : Node) (w : IsWellFormed nodes) (dir : get_or nodes p empty_root ≡ directory nm q) (p<n : p < length nodes) where
   tail-is : tail (insert_at p new nodes) ≡ splice p new 1 (q - 1) (tail nodes)
   unfolding insert_at
   tail-is = let b = next-bounds nodes p q nm w dir p<n in rw dir (tail-splice p new q nodes (omega arith) b.1)

@@ -3,12 +3,12 @@
 use Rattle.std.specs.Prelude.{Ok, Err}
 use Rattle.refusal.specs.Refusal.{Verdict}
 use Rattle.std.specs.Prelude.{ℕ, ◌≡◌, refl, List, [], ◌∷◌, ◌++◌, set, take}
-use Rattle.endian.specs.Bytes.{be24, be32, put, be32_bytes, same_bytes}
+use Rattle.endian.specs.Bytes.{be24, be32, put, be32_bytes, are_same_bytes}
 use Rattle.refusal.specs.declared.Refusal.TheVariants.{EntryPastTable, UnrecognizedKind, RootIsNotDirectory, MissingNullTerminator, LimitOrMemory, InvalidNextIndex, InvalidNameOffset, InvalidNameByte, UnsafeName, NoSuchEntry, ExpectedDirectory, NotFound}
 use Rattle.tree.specs.Units.{units}
-use Rattle.tree.specs.Table.{Node, file, directory, plain, safe, count, name_at, node_at, nodes_from, nodes_of, entry_verdict, entries_verdict, unended, shut, name_verdict, next_verdict, walk, check, parent_below, parent_of, entries_bytes, texts_of, encode}
+use Rattle.tree.specs.Table.{Node, file, directory, is_plain, is_safe, count, name_at, node_at, nodes_from, nodes_of, entry_verdict, entries_verdict, is_unended, dirs_open_at, name_verdict, next_verdict, walk, check, parent_below, parent_of, entries_bytes, texts_of, encode}
 use Rattle.tree.specs.Lookup.{components_of, components, first_child, child_of, follow, lookup}
-use Rattle.tree.specs.Insert.{empty_file, bump, splice, insert_at, shifted}
+use Rattle.tree.specs.Insert.{empty_file, raised_next, splice, insert_at, number_after_insert}
 use Rattle.tree.specs.Inner.Patch.{records, record_before, record_after, patched_record, new_start, insert_patch}
 
 -- ---- the small master: the root and the file `a`, and the texts
@@ -28,7 +28,7 @@ unfolding encode entries_bytes texts_of parent_of parent_below
 master-written = refl
 
 master-accepted : check master 16 ≡ Ok tt
-unfolding check nodes_from node_at name_at count entries_verdict entry_verdict unended walk name_verdict next_verdict shut plain safe units be24 be32
+unfolding check nodes_from node_at name_at count entries_verdict entry_verdict is_unended walk name_verdict next_verdict dirs_open_at is_plain is_safe units be24 be32
 master-accepted = refl
 
 -- ---- each refusal of a table, 5 to 13; a count of 0 is 10, of 2^24 it is 9
@@ -51,7 +51,7 @@ refusals :
     (check (set master 24 0x2E) 16 ≡ Err UnsafeName) ×
     (check (set master 24 0x3A) 16 ≡ Err UnsafeName) ×
     (check (set master 15 1) 16 ≡ Err UnsafeName)
-unfolding check nodes_from node_at name_at count entries_verdict entry_verdict unended walk name_verdict next_verdict shut plain safe units be24 be32
+unfolding check nodes_from node_at name_at count entries_verdict entry_verdict is_unended walk name_verdict next_verdict dirs_open_at is_plain is_safe units be24 be32
 refusals = (refl, refl, refl, refl, refl, refl, refl, refl, refl, refl, refl, refl, refl, refl, refl, refl, refl)
 
 -- ---- a directory `d` with a file `b` in it, then a file `b` beside it; both files have the one text `b`, and the stored parents are wrong
@@ -64,7 +64,7 @@ abbrev nested : List Node
 nested = directory [] 4 ∷ directory (0x64 ∷ []) 3 ∷ file (0x62 ∷ []) 9 8 ∷ file (0x62 ∷ []) 6 5 ∷ []
 
 shared-accepted : (check shared 24 ≡ Ok tt) × (nodes_of shared ≡ nested)
-unfolding check nodes_of nodes_from node_at name_at count entries_verdict entry_verdict unended walk name_verdict next_verdict shut plain safe units be24 be32
+unfolding check nodes_of nodes_from node_at name_at count entries_verdict entry_verdict is_unended walk name_verdict next_verdict dirs_open_at is_plain is_safe units be24 be32
 shared-accepted = (refl, refl)
 
 -- written, each name has a text of its own and the parent is the one it is nested in: two bytes more
@@ -74,11 +74,11 @@ shared-written = refl
 
 -- an empty file `c` as the last child of `d`: entry 3, and the table of the new tree is the old one patched
 grown : insert_at 1 (empty_file (0x63 ∷ [])) nested ≡ directory [] 5 ∷ directory (0x64 ∷ []) 4 ∷ file (0x62 ∷ []) 9 8 ∷ file (0x63 ∷ []) 0 0 ∷ file (0x62 ∷ []) 6 5 ∷ []
-unfolding insert_at splice bump
+unfolding insert_at splice raised_next
 grown = refl
 
 grown-patched : insert_patch (encode nested) 4 1 (empty_file (0x63 ∷ [])) ≡ encode (insert_at 1 (empty_file (0x63 ∷ [])) nested)
-unfolding insert_patch records patched_record record_before record_after new_start encode entries_bytes texts_of parent_of parent_below insert_at splice bump shifted be24 be32
+unfolding insert_patch records patched_record record_before record_after new_start encode entries_bytes texts_of parent_of parent_below insert_at splice raised_next number_after_insert be24 be32
 grown-patched = refl
 
 -- ---- directories inside directories, `d/x`, `d/e/g/y` and `f`: the stored parent is 0 for `d` and `f`, 1 for `e`, 3 for `g`
@@ -102,7 +102,7 @@ unfolding encode entries_bytes texts_of parent_of parent_below
 deep-written = refl
 
 deep-accepted : (check deep_bytes 36 ≡ Ok tt) × (nodes_of deep_bytes ≡ deep)
-unfolding check nodes_of nodes_from node_at name_at count entries_verdict entry_verdict unended walk name_verdict next_verdict shut plain safe units be24 be32
+unfolding check nodes_of nodes_from node_at name_at count entries_verdict entry_verdict is_unended walk name_verdict next_verdict dirs_open_at is_plain is_safe units be24 be32
 deep-accepted = (refl, refl)
 
 -- ---- paths: ``, `d/b`, `d/../b`, `./d\b`, `..`, `b/`, `d/x`, and an entry that is none
@@ -116,7 +116,7 @@ looked-up :
     (lookup nested 0 (0x62 ∷ 0x2F ∷ []) ≡ Err ExpectedDirectory) ×
     (lookup nested 0 (0x64 ∷ 0x2F ∷ 0x78 ∷ []) ≡ Err NotFound) ×
     (lookup nested 4 [] ≡ Err NoSuchEntry)
-unfolding lookup follow components components_of units child_of first_child parent_of parent_below same_bytes
+unfolding lookup follow components components_of units child_of first_child parent_of parent_below are_same_bytes
 looked-up = (refl, refl, refl, refl, refl, refl, refl, refl)
 
 -- ---- Japanese names: `表` (0x95 0x5C), half-width katakana from the first to the last, a pair of two lead bytes and then one with the trail
@@ -133,7 +133,7 @@ names-accepted :
     (judged (0x95 ∷ 0x5C ∷ []) ≡ Ok tt) ×
     (judged (0xA1 ∷ 0xB1 ∷ 0xDF ∷ []) ≡ Ok tt) ×
     (judged (0x81 ∷ 0x81 ∷ 0x81 ∷ 0x5C ∷ []) ≡ Ok tt)
-unfolding judged named check nodes_from node_at name_at count entries_verdict entry_verdict unended walk name_verdict next_verdict shut plain safe units be24 be32
+unfolding judged named check nodes_from node_at name_at count entries_verdict entry_verdict is_unended walk name_verdict next_verdict dirs_open_at is_plain is_safe units be24 be32
 names-accepted = (refl, refl, refl)
 
 -- a lead byte at the end, before `:` and before `/`; 0x80, 0xA0, 0xE0, 0xFD and 0xFF; `\` behind a pair and behind 0xDF, and `:`
@@ -149,7 +149,7 @@ names-refused :
     (judged (0x81 ∷ 0x81 ∷ 0x5C ∷ []) ≡ Err UnsafeName) ×
     (judged (0xDF ∷ 0x5C ∷ []) ≡ Err UnsafeName) ×
     (judged (0x95 ∷ 0x5C ∷ 0x3A ∷ []) ≡ Err UnsafeName)
-unfolding judged named check nodes_from node_at name_at count entries_verdict entry_verdict unended walk name_verdict next_verdict shut plain safe units be24 be32
+unfolding judged named check nodes_from node_at name_at count entries_verdict entry_verdict is_unended walk name_verdict next_verdict dirs_open_at is_plain is_safe units be24 be32
 names-refused = (refl, refl, refl, refl, refl, refl, refl, refl, refl, refl, refl)
 
 -- the first and the last lead byte of each range, and the first and the last trail byte
@@ -161,7 +161,7 @@ pairs-accepted :
     (judged (0x81 ∷ 0x7E ∷ []) ≡ Ok tt) ×
     (judged (0x81 ∷ 0x80 ∷ []) ≡ Ok tt) ×
     (judged (0x81 ∷ 0xFC ∷ []) ≡ Ok tt)
-unfolding judged named check nodes_from node_at name_at count entries_verdict entry_verdict unended walk name_verdict next_verdict shut plain safe units be24 be32
+unfolding judged named check nodes_from node_at name_at count entries_verdict entry_verdict is_unended walk name_verdict next_verdict dirs_open_at is_plain is_safe units be24 be32
 pairs-accepted = (refl, refl, refl, refl, refl, refl, refl)
 
 -- the bytes beside the ranges are no lead bytes and no trail bytes; 0xDF, which is a name's byte, is among the paths below
@@ -172,12 +172,12 @@ pairs-refused :
     (judged (0x81 ∷ 0x3F ∷ []) ≡ Err InvalidNameByte) ×
     (judged (0x81 ∷ 0x7F ∷ []) ≡ Err InvalidNameByte) ×
     (judged (0x81 ∷ 0xFD ∷ []) ≡ Err InvalidNameByte)
-unfolding judged named check nodes_from node_at name_at count entries_verdict entry_verdict unended walk name_verdict next_verdict shut plain safe units be24 be32
+unfolding judged named check nodes_from node_at name_at count entries_verdict entry_verdict is_unended walk name_verdict next_verdict dirs_open_at is_plain is_safe units be24 be32
 pairs-refused = (refl, refl, refl, refl, refl, refl)
 
 -- a name that starts inside a pair of another text has units of its own: the text 0x81 0x5C read from its second byte is `\`
 inside-a-pair : check (set (named (0x81 ∷ 0x5C ∷ [])) 15 1) 16 ≡ Err UnsafeName
-unfolding named check nodes_from node_at name_at count entries_verdict entry_verdict unended walk name_verdict next_verdict shut plain safe units be24 be32
+unfolding named check nodes_from node_at name_at count entries_verdict entry_verdict is_unended walk name_verdict next_verdict dirs_open_at is_plain is_safe units be24 be32
 inside-a-pair = refl
 
 -- ---- paths with lead bytes: `表\b` is cut once, 0x81 0x5C `b` not at all; behind 0x81 0x81 a `\` cuts, and behind 0xA0 and 0xDF, which are no

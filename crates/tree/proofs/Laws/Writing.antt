@@ -6,7 +6,7 @@ use mathlib.Core.List.{List, [], ◌∷◌, ◌++◌, tail, append_assoc}
 use Rattle.std.proofs.Math.Seq.{split_at, take-length}
 use Rattle.endian.specs.Bytes.{be24, be32}
 use Rattle.endian.specs.Laws.Stored.{be24-value, be32-value}
-use Rattle.tree.specs.Table.{Node, file, directory, name_of, none, kind, name_offset, offset_or_parent, size_or_next, nodes_of, node_bytes, parent_below, parent_of, entries_bytes, texts_of, encode}
+use Rattle.tree.specs.Table.{Node, file, directory, name_of, empty_root, kind, name_offset, offset_or_parent, size_or_next, nodes_of, node_bytes, parent_below, parent_of, entries_bytes, texts_of, encode}
 use Rattle.tree.specs.Inner.WellFormed.{IsGoodEntry, IsWellFormed}
 use Rattle.tree.proofs.Laws.WrittenEntries.{length-node_bytes, kind-is, name_offset-is, word-is, drop_past}
 use Rattle.tree.proofs.Laws.Nesting.{parent-most}
@@ -30,9 +30,9 @@ texts-append (x ∷ xs) ys = rw (texts-append xs ys) (sym (append_assoc (name_of
 unfoldable pub text_start : List Node → ℕ → ℕ
 text_start nodes k = length (texts_of (take (k - 1) (tail nodes)))
 
-texts-next : (xs : List Node) (j : ℕ) → j < length xs → texts_of (take (suc j) xs) ≡ texts_of (take j xs) ++ (name_of (get_or xs j none) ++ (0 ∷ []))
+texts-next : (xs : List Node) (j : ℕ) → j < length xs → texts_of (take (suc j) xs) ≡ texts_of (take j xs) ++ (name_of (get_or xs j empty_root) ++ (0 ∷ []))
 unfolding texts_of
-texts-next xs j h = rw (take-suc xs j none h, texts-append (take j xs) (get_or xs j none ∷ []))
+texts-next xs j h = rw (take-suc xs j empty_root h, texts-append (take j xs) (get_or xs j empty_root ∷ []))
 
 start-root : (nodes : List Node) → text_start nodes 0 ≡ 0
 unfolding text_start texts_of
@@ -43,14 +43,14 @@ pub start_first : (nodes : List Node) → text_start nodes 1 ≡ 0
 unfolding text_start texts_of
 start_first nodes = refl
 
-pub start-next : (nodes : List Node) (k : ℕ) → 0 < k → k < length nodes → text_start nodes (k + 1) ≡ text_start nodes k + (length (name_of (get_or nodes k none)) + 1)
+pub start-next : (nodes : List Node) (k : ℕ) → 0 < k → k < length nodes → text_start nodes (k + 1) ≡ text_start nodes k + (length (name_of (get_or nodes k empty_root)) + 1)
 unfolding text_start
 start-next [] k h l = absurd (omega arith)
 start-next (r ∷ xs) zero h l = absurd (omega arith)
 start-next (r ∷ xs) (suc j) h l =
     let a : suc j + 1 - 1 ≡ suc j = omega arith in
     let b : suc j - 1 ≡ j = omega arith in
-    let nm : List ℕ = name_of (get_or xs j none) in
+    let nm : List ℕ = name_of (get_or xs j empty_root) in
     rw (a, b, texts-next xs j (omega arith), length-append (texts_of (take j xs)) (nm ++ (0 ∷ [])), length-append nm (0 ∷ []))
 
 pub start-end : (nodes : List Node) → text_start nodes (length nodes) ≡ length (texts_of (tail nodes))
@@ -61,18 +61,18 @@ start-end (r ∷ xs) =
     rw (a, take-length xs)
 
 -- the texts from the one of entry k on
-text-from : (xs : List Node) (j : ℕ) → j < length xs → texts_of xs ≡ texts_of (take j xs) ++ (name_of (get_or xs j none) ++ (0 ∷ texts_of (drop (suc j) xs)))
+text-from : (xs : List Node) (j : ℕ) → j < length xs → texts_of xs ≡ texts_of (take j xs) ++ (name_of (get_or xs j empty_root) ++ (0 ∷ texts_of (drop (suc j) xs)))
 unfolding texts_of
-text-from xs j h = ap texts_of (split_at xs j none h) ∙ texts-append (take j xs) (get_or xs j none ∷ drop (suc j) xs)
+text-from xs j h = ap texts_of (split_at xs j empty_root h) ∙ texts-append (take j xs) (get_or xs j empty_root ∷ drop (suc j) xs)
 
 -- the text of entry k with its zero byte lies inside the texts
-pub start-inside : (nodes : List Node) (k : ℕ) → 0 < k → k < length nodes → text_start nodes k + length (name_of (get_or nodes k none)) < length (texts_of (tail nodes))
+pub start-inside : (nodes : List Node) (k : ℕ) → 0 < k → k < length nodes → text_start nodes k + length (name_of (get_or nodes k empty_root)) < length (texts_of (tail nodes))
 unfolding text_start
 start-inside [] k h l = absurd (omega arith)
 start-inside (r ∷ xs) zero h l = absurd (omega arith)
 start-inside (r ∷ xs) (suc j) h l =
     let a : suc j - 1 ≡ j = omega arith in
-    let nm : List ℕ = name_of (get_or xs j none) in
+    let nm : List ℕ = name_of (get_or xs j empty_root) in
     let e : length (texts_of xs) ≡ length (texts_of (take j xs)) + (length nm + suc (length (texts_of (drop (suc j) xs)))) =
     ap length (text-from xs j (omega arith)) ∙ length-append (texts_of (take j xs)) _ ∙ ap (λ (n : ℕ). length (texts_of (take j xs)) + n) (length-append nm (0 ∷ texts_of (drop (suc j) xs))) in
     rw a (omega arith)
@@ -85,18 +85,18 @@ start-most nodes (suc j) h = omega (arith, start-inside nodes (suc j) (omega ari
 
 -- the 12 bytes of entry k
 unfoldable pub entry_bytes : List Node → ℕ → List ℕ
-entry_bytes nodes k = node_bytes (parent_of nodes k) (text_start nodes k) (get_or nodes k none)
+entry_bytes nodes k = node_bytes (parent_of nodes k) (text_start nodes k) (get_or nodes k empty_root)
 
 pub entry-twelve : (nodes : List Node) → Twelve (entry_bytes nodes)
 unfolding entry_bytes
-entry-twelve nodes k = length-node_bytes (parent_of nodes k) (text_start nodes k) (get_or nodes k none)
+entry-twelve nodes k = length-node_bytes (parent_of nodes k) (text_start nodes k) (get_or nodes k empty_root)
 
-entries-records : (nodes : List Node) (k o : ℕ) (xs : List Node) → ((i : ℕ) → i < length xs → get_or nodes (k + i) none ≡ get_or xs i none) →
+entries-records : (nodes : List Node) (k o : ℕ) (xs : List Node) → ((i : ℕ) → i < length xs → get_or nodes (k + i) empty_root ≡ get_or xs i empty_root) →
     ((i : ℕ) → i < length xs → text_start nodes (k + i) ≡ o + length (texts_of (take i xs))) → entries_bytes nodes k o xs ≡ records (entry_bytes nodes) k (length xs)
 unfolding entries_bytes records texts_of entry_bytes
 entries-records nodes k o [] f g = refl
 entries-records nodes k o (x ∷ xs) f g =
-    let e : get_or nodes k none ≡ x = rw (add-zero k) at (f 0 (omega arith)) in
+    let e : get_or nodes k empty_root ≡ x = rw (add-zero k) at (f 0 (omega arith)) in
     let t : text_start nodes k ≡ o = rw (add-zero k, add-zero o) at (g 0 (omega arith)) in
     let o' : ℕ = o + suc (length (name_of x)) in
     let ih : entries_bytes nodes (suc k) o' xs ≡ records (entry_bytes nodes) (suc k) (length xs) =
@@ -123,13 +123,13 @@ written-texts nodes = rw (encode-records nodes) (drop-records (entry_bytes nodes
 
 -- the text of entry k, with what comes after it
 pub written-text : (nodes : List Node) (k : ℕ) → 0 < k → k < length nodes →
-    drop (12 * length nodes + text_start nodes k) (encode nodes) ≡ name_of (get_or nodes k none) ++ (0 ∷ texts_of (drop k (tail nodes)))
+    drop (12 * length nodes + text_start nodes k) (encode nodes) ≡ name_of (get_or nodes k empty_root) ++ (0 ∷ texts_of (drop k (tail nodes)))
 unfolding text_start
 written-text [] k h l = absurd (omega arith)
 written-text (r ∷ xs) zero h l = absurd (omega arith)
 written-text (r ∷ xs) (suc j) h l =
     let a : suc j - 1 ≡ j = omega arith in
-    let t : List ℕ = name_of (get_or xs j none) ++ (0 ∷ texts_of (drop (suc j) xs)) in
+    let t : List ℕ = name_of (get_or xs j empty_root) ++ (0 ∷ texts_of (drop (suc j) xs)) in
     let e : drop (12 * suc (length xs)) (encode (r ∷ xs)) ≡ texts_of (take j xs) ++ t = written-texts (r ∷ xs) ∙ text-from xs j (omega arith) in
     rw a (drop_past (12 * suc (length xs)) (12 * suc (length xs) + length (texts_of (take j xs))) (encode (r ∷ xs)) (texts_of (take j xs)) t e refl)
 
@@ -154,12 +154,12 @@ good-fits : (c k : ℕ) (dirs : List ℕ) (x : Node) → c < 2 ^ 32 → IsGoodEn
 good-fits c k dirs (file nm offset size) h g = g
 good-fits c k dirs (directory nm next) h g = omega arith
 
-pub fits : (nodes : List Node) (k : ℕ) → IsWellFormed nodes → k < length nodes → length nodes < 2 ^ 32 → Fits32 (get_or nodes k none)
+pub fits : (nodes : List Node) (k : ℕ) → IsWellFormed nodes → k < length nodes → length nodes < 2 ^ 32 → Fits32 (get_or nodes k empty_root)
 fits nodes zero w h few = rw (root_is nodes w) few
-fits nodes (suc i) w h few = good-fits (length nodes) (suc i) (open_at (length nodes ∷ []) 1 (tail nodes) i) (get_or nodes (suc i) none) few (entry_at nodes i w h).1
+fits nodes (suc i) w h few = good-fits (length nodes) (suc i) (open_at (length nodes ∷ []) 1 (tail nodes) i) (get_or nodes (suc i) empty_root) few (entry_at nodes i w h).1
 
 pub written-fields : (nodes : List Node) (k : ℕ) → IsWellFormed nodes → length nodes < 2 ^ 32 → length (texts_of (tail nodes)) < 2 ^ 24 → k < length nodes →
-    Fields (encode nodes) k (parent_of nodes k) (text_start nodes k) (get_or nodes k none)
+    Fields (encode nodes) k (parent_of nodes k) (text_start nodes k) (get_or nodes k empty_root)
 unfolding entry_bytes
 written-fields nodes k w few texts h =
-    fields_read (encode nodes) k (parent_of nodes k) (text_start nodes k) (get_or nodes k none) _ (written_entry nodes k h) (omega (arith, parent-most nodes k)) (omega (arith, start-most nodes k h)) (fits nodes k w h few)
+    fields_read (encode nodes) k (parent_of nodes k) (text_start nodes k) (get_or nodes k empty_root) _ (written_entry nodes k h) (omega (arith, parent-most nodes k)) (omega (arith, start-most nodes k h)) (fits nodes k w h few)

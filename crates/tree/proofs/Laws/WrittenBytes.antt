@@ -2,10 +2,10 @@
 use Rattle.std.specs.Prelude.{ℕ, zero, suc, ◌+◌, ◌/◌, ◌%◌, ◌<◌, ◌≡◌, true, List, [], ◌∷◌, ◌++◌, length}
 use Rattle.std.proofs.Common.{arith}
 use Rattle.endian.specs.Bytes.{be24_bytes, be32_bytes, AllBytes}
-use Rattle.tree.specs.Table.{Node, file, directory, name_of, plain, shut, enter, node_bytes, parent_of, entries_bytes, texts_of, encode}
-use Rattle.tree.specs.Units.{within}
+use Rattle.tree.specs.Table.{Node, file, directory, name_of, is_plain, dirs_open_at, dirs_with, node_bytes, parent_of, entries_bytes, texts_of, encode}
+use Rattle.tree.specs.Units.{is_within}
 use Rattle.tree.specs.Inner.WellFormed.{IsSound, IsWellFormed}
-use Rattle.tree.proofs.Laws.UnitLaws.{within-is, plain-bytes}
+use Rattle.tree.proofs.Laws.UnitLaws.{is_within-is, is_plain-bytes}
 use Rattle.refusal.specs.Laws.Tests.{and_left, and_right}
 use Rattle.std.specs.List.{list_all}
 
@@ -35,14 +35,14 @@ node-all : (p o : ℕ) (x : Node) → AllBytes (node_bytes p o x)
 node-all p o (file nm offset size) = fields-all 0 o offset size (omega arith)
 node-all p o (directory nm next) = fields-all 1 o p next (omega arith)
 
-within_all : (nm : List ℕ) → list_all (within 0x20 0xFC) nm ≡ true → AllBytes nm
+within_all : (nm : List ℕ) → list_all (is_within 0x20 0xFC) nm ≡ true → AllBytes nm
 within_all [] e = all_nil
 within_all (b ∷ nm) e =
-    let r = within-is 0x20 0xFC b (and_left (within 0x20 0xFC b) _ e) in
-    all_cons b nm (omega (arith, r.1)) (within_all nm (and_right (within 0x20 0xFC b) _ e))
+    let r = is_within-is 0x20 0xFC b (and_left (is_within 0x20 0xFC b) _ e) in
+    all_cons b nm (omega (arith, r.1)) (within_all nm (and_right (is_within 0x20 0xFC b) _ e))
 
-pub name-all : (nm : List ℕ) → plain nm ≡ true → AllBytes nm
-name-all nm e = within_all nm (plain-bytes nm e)
+pub name-all : (nm : List ℕ) → is_plain nm ≡ true → AllBytes nm
+name-all nm e = within_all nm (is_plain-bytes nm e)
 
 entries-all : (nodes : List Node) (k o : ℕ) (xs : List Node) → AllBytes (entries_bytes nodes k o xs)
 unfolding entries_bytes
@@ -54,7 +54,7 @@ texts-all : (c k : ℕ) (dirs : List ℕ) (xs : List Node) → IsSound c dirs k 
 unfolding texts_of
 texts-all c k dirs [] g = all_nil
 texts-all c k dirs (x ∷ xs) g =
-    all_append (name_of x) (0 ∷ texts_of xs) (name-all (name_of x) g.0.0) (all_cons 0 (texts_of xs) (omega arith) (texts-all c (suc k) (enter (shut k dirs) x) xs g.2))
+    all_append (name_of x) (0 ∷ texts_of xs) (name-all (name_of x) g.0.0) (all_cons 0 (texts_of xs) (omega arith) (texts-all c (suc k) (dirs_with (dirs_open_at k dirs) x) xs g.2))
 
 pub encode-all : (nodes : List Node) → IsWellFormed nodes → AllBytes (encode nodes)
 unfolding encode

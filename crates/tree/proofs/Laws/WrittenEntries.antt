@@ -12,10 +12,10 @@ use Rattle.endian.specs.Bytes.{be24, be32}
 use Rattle.endian.specs.Laws.Stored.{be32-drop, be24-drop, be24-value, be32-value}
 use Rattle.refusal.specs.declared.Refusal.TheVariants.{LimitOrMemory}
 use Rattle.refusal.specs.Refusal.{refuse, first}
-use Rattle.tree.specs.Table.{Node, file, directory, name_of, plain, kind, name_offset, offset_or_parent, size_or_next, name_at, node_at, nodes_from, entry_verdict, entries_verdict, unended, top, shut, enter, name_verdict, next_verdict, walk, node_bytes, parent_of, entries_bytes, texts_of, encode, shallow_entry, shallow_from}
+use Rattle.tree.specs.Table.{Node, file, directory, name_of, is_plain, kind, name_offset, offset_or_parent, size_or_next, name_at, node_at, nodes_from, entry_verdict, entries_verdict, is_unended, top, dirs_open_at, dirs_with, name_verdict, next_verdict, walk, node_bytes, parent_of, entries_bytes, texts_of, encode, is_shallow_entry, is_shallow_from}
 use Rattle.tree.specs.Inner.WellFormed.{IsGoodEntry, IsSound}
-use Rattle.tree.proofs.Laws.Texts.{up_to0-name}
-use Rattle.tree.proofs.Laws.UnitLaws.{plain-bytes}
+use Rattle.tree.proofs.Laws.Texts.{first_text-name}
+use Rattle.tree.proofs.Laws.UnitLaws.{is_plain-bytes}
 
 -- ---- lengths
 
@@ -60,19 +60,19 @@ record Holds (tab : List ℕ) (c k o : ℕ) (x : Node) : Type 0 where
 holds : (tab : List ℕ) (c k p o : ℕ) (x : Node) (r s dirs : List ℕ) →
     drop (12 * k) tab ≡ node_bytes p o x ++ r →
     drop (12 * c + o) tab ≡ name_of x ++ (0 ∷ s) →
-    o < 2 ^ 24 → c < 2 ^ 32 → plain (name_of x) ≡ true → IsGoodEntry c dirs k x → Holds tab c k o x
+    o < 2 ^ 24 → c < 2 ^ 32 → is_plain (name_of x) ≡ true → IsGoodEntry c dirs k x → Holds tab c k o x
 unfolding node_at name_at be24 be32
 holds tab c k p o (file nm offset size) r s dirs e t ho hc pl g =
     let ko : kind tab k ≡ 0 = kind-is tab k _ e in
     let oo : name_offset tab k ≡ o = name_offset-is tab k _ e ∙ be24-value o ho in
     let ao : offset_or_parent tab k ≡ offset = word-is tab k _ e 4 ∙ be32-value offset g.0 in
     let bo : size_or_next tab k ≡ size = word-is tab k _ e 8 ∙ be32-value size g.1 in
-    record { off = oo; node = rw (ko, oo, ao, bo, t) (ap (λ (l : List ℕ). file l offset size) (up_to0-name nm s (plain-bytes nm pl))) }
+    record { off = oo; node = rw (ko, oo, ao, bo, t) (ap (λ (l : List ℕ). file l offset size) (first_text-name nm s (is_plain-bytes nm pl))) }
 holds tab c k p o (directory nm next) r s dirs e t ho hc pl g =
     let ko : kind tab k ≡ 1 = kind-is tab k _ e in
     let oo : name_offset tab k ≡ o = name_offset-is tab k _ e ∙ be24-value o ho in
     let bo : size_or_next tab k ≡ next = word-is tab k _ e 8 ∙ be32-value next (omega arith) in
-    record { off = oo; node = rw (ko, oo, bo, t) (ap (λ (l : List ℕ). directory l next) (up_to0-name nm s (plain-bytes nm pl))) }
+    record { off = oo; node = rw (ko, oo, bo, t) (ap (λ (l : List ℕ). directory l next) (first_text-name nm s (is_plain-bytes nm pl))) }
 
 -- past the front: what follows where p bytes more are dropped
 pub drop_past : (n m : ℕ) (tab p q : List ℕ) → drop n tab ≡ p ++ q → n + length p ≡ m → drop m tab ≡ q
@@ -121,10 +121,10 @@ reads nodes tab c k o dirs r (x ∷ xs) e t ho hc g =
     let f = entry_next nodes tab k o x xs r e in
     let tlen : length tab - (12 * c + o) ≡ length (name_of x) + suc (length (texts_of xs)) = length-of-drop (12 * c + o) tab _ t ∙ length-append (name_of x) _ in
     let ho₁ : o + (length (name_of x) + suc (length (texts_of xs))) ≤ 2 ^ 24 = rw length-append at ho in
-    let h : Holds tab c k o x = holds tab c k (parent_of nodes k) o x _ _ (shut k dirs) f.0 t (omega arith) hc g.0.0 g.1 in (
+    let h : Holds tab c k o x = holds tab c k (parent_of nodes k) o x _ _ (dirs_open_at k dirs) f.0 t (omega arith) hc g.0.0 g.1 in (
       omega (arith, h.off),
       h.node,
-      reads nodes tab c (suc k) o' (enter (shut k dirs) x) r xs f.1
+      reads nodes tab c (suc k) o' (dirs_with (dirs_open_at k dirs) x) r xs f.1
           (drop_past (12 * c + o) (12 * c + o') tab (name_of x ++ (0 ∷ [])) (texts_of xs) (t ∙ sym (append_assoc (name_of x) (0 ∷ []) (texts_of xs))) (omega (arith, length-append (name_of x) (0 ∷ []))))
           (omega arith) hc g.2,
     )
@@ -136,7 +136,7 @@ reads-nodes tab c k (x ∷ xs) r = rw (r.1, reads-nodes tab c (suc k) xs r.2)
 
 -- ---- the walk: only the depth is left to be judged
 
-next-depth : (c k : ℕ) (dirs : List ℕ) (x : Node) → IsGoodEntry c dirs k x → next_verdict c dirs k x ≡ refuse (not (shallow_entry dirs x)) LimitOrMemory (Ok tt)
+next-depth : (c k : ℕ) (dirs : List ℕ) (x : Node) → IsGoodEntry c dirs k x → next_verdict c dirs k x ≡ refuse (not (is_shallow_entry dirs x)) LimitOrMemory (Ok tt)
 unfolding next_verdict
 next-depth c k dirs (file nm offset size) g = refl
 next-depth c k dirs (directory nm next) g = simp (lt-leb next k g.0, le-ltb c next g.1, le-ltb (top dirs) next g.2) (go (leb (length dirs) 64) refl)
@@ -150,12 +150,12 @@ both-depths true b = refl
 both-depths false b = refl
 
 pub reads-walk : (tab : List ℕ) (c k : ℕ) (dirs : List ℕ) (xs : List Node) → Reads tab c k xs → IsSound c dirs k xs →
-    walk tab c dirs k xs ≡ refuse (not (shallow_from dirs k xs)) LimitOrMemory (Ok tt)
-unfolding walk name_verdict shallow_from
+    walk tab c dirs k xs ≡ refuse (not (is_shallow_from dirs k xs)) LimitOrMemory (Ok tt)
+unfolding walk name_verdict is_shallow_from
 reads-walk tab c k dirs [] r g = refl
 reads-walk tab c k dirs (x ∷ xs) r g =
-    simp (lt-leb (length tab - 12 * c) (name_offset tab k) r.0, g.0.0, g.0.1, next-depth c k (shut k dirs) x g.1, reads-walk tab c (suc k) (enter (shut k dirs) x) xs r.2 g.2)
-    (both-depths (shallow_entry (shut k dirs) x) (shallow_from (enter (shut k dirs) x) (suc k) xs))
+    simp (lt-leb (length tab - 12 * c) (name_offset tab k) r.0, g.0.0, g.0.1, next-depth c k (dirs_open_at k dirs) x g.1, reads-walk tab c (suc k) (dirs_with (dirs_open_at k dirs) x) xs r.2 g.2)
+    (both-depths (is_shallow_entry (dirs_open_at k dirs) x) (is_shallow_from (dirs_with (dirs_open_at k dirs) x) (suc k) xs))
 
 -- ---- the last byte
 
@@ -175,9 +175,9 @@ unfolding texts_of
 last-text [] = refl
 last-text (x ∷ xs) = last-append (name_of x) (0 ∷ texts_of xs) (omega arith) ∙ last-zero (texts_of xs) (last-text xs)
 
-pub not-unended : (tab : List ℕ) (c : ℕ) → (12 * c < length tab → get_or tab (length tab - 1) 0 ≡ 0) → unended tab c ≡ false
-unfolding unended
-not-unended tab c h = go (ltb (12 * c) (length tab)) refl
+pub not-is_unended : (tab : List ℕ) (c : ℕ) → (12 * c < length tab → get_or tab (length tab - 1) 0 ≡ 0) → is_unended tab c ≡ false
+unfolding is_unended
+not-is_unended tab c h = go (ltb (12 * c) (length tab)) refl
   where
     go : (t : Bool) → ltb (12 * c) (length tab) ≡ t → (t && not (eqb (get_or tab (length tab - 1) 0) 0)) ≡ false
     go true e = rw (h (ltb-true _ _ e))

@@ -1,12 +1,12 @@
 -- What acceptance gives of a table, for the contracts above that hold it open. Assumes nothing: this is a definition.
 use Rattle.std.specs.Prelude.{ℕ, ◌+◌, ◌-◌, ◌*◌, ◌^◌, ◌<◌, ◌≤◌, ◌≡◌, true, List, length, slice_index}
-use Rattle.tree.specs.Table.{kind, name_offset, size_or_next, count, name_at, nodes_of, shallow}
+use Rattle.tree.specs.Table.{kind, name_offset, size_or_next, count, name_at, nodes_of, is_shallow}
 use Rattle.tree.specs.Inner.WellFormed.{IsWellFormed}
 
 -- an accepted table, and how many working words were lent
 pub record IsAccepted (tab : List ℕ) (words : ℕ) : Type 0 where
   pub well : IsWellFormed (nodes_of tab)
-  pub depth : shallow (nodes_of tab) ≡ true
+  pub depth : is_shallow (nodes_of tab) ≡ true
   -- the entries
   pub root-kind : kind tab 0 ≡ 1
   pub root-next : size_or_next tab 0 ≡ count tab

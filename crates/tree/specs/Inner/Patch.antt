@@ -2,7 +2,7 @@
 use Rattle.std.specs.Prelude.{ℕ, suc, ◌+◌, ◌-◌, ◌*◌, zero, List, [], ◌∷◌, ◌++◌, length, take, drop, if◌then◌else◌, ◌==◌, nat_lt}
 use Rattle.endian.specs.Bytes.{be32_bytes, put}
 use Rattle.tree.specs.Table.{Node, name_of, kind, name_offset, offset_or_parent, size_or_next, node_with, node_bytes}
-use Rattle.tree.specs.Insert.{node_before, node_after, shifted}
+use Rattle.tree.specs.Insert.{node_before, node_after, number_after_insert}
 
 -- records k to k + n - 1
 unfoldable pub records : (ℕ → List ℕ) → ℕ → ℕ → List ℕ
@@ -16,16 +16,16 @@ place_patch tab k offset size = put tab (12 * k + 4) (be32_bytes offset ++ be32_
 -- ---- insert
 
 -- the numbers of entry k as they stand in the table, without its name
-abbrev pub stored : List ℕ → ℕ → Node
-stored tab k = node_with (kind tab k) [] (offset_or_parent tab k) (size_or_next tab k)
+abbrev pub stored_node : List ℕ → ℕ → Node
+stored_node tab k = node_with (kind tab k) [] (offset_or_parent tab k) (size_or_next tab k)
 
 -- entry k before the new one: its next grows, if it is directory p or one around p
 unfoldable pub record_before : List ℕ → ℕ → ℕ → List ℕ
-record_before tab p k = node_bytes (offset_or_parent tab k) (name_offset tab k) (node_before p k (stored tab k))
+record_before tab p k = node_bytes (offset_or_parent tab k) (name_offset tab k) (node_before p k (stored_node tab k))
 
 -- entry k, which moves behind the new one at q: its next grows, its parent if that moves too, and its name offset by the new text
 unfoldable pub record_after : List ℕ → ℕ → ℕ → ℕ → List ℕ
-record_after tab q grow k = node_bytes (shifted q (offset_or_parent tab k)) (name_offset tab k + grow) (node_after (stored tab k))
+record_after tab q grow k = node_bytes (number_after_insert q (offset_or_parent tab k)) (name_offset tab k + grow) (node_after (stored_node tab k))
 
 -- record k of the new table; the new entry's text starts at `start`
 unfoldable pub patched_record : List ℕ → ℕ → ℕ → Node → ℕ → ℕ → List ℕ

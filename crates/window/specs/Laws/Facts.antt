@@ -6,7 +6,7 @@ use Rattle.endian.specs.Bytes.{span}
 use Rattle.endian.specs.Laws.Stored.{length-put, put_in, put-after, get_d-span}
 use Rattle.refusal.specs.declared.Refusal.TheVariants.{InvalidSeek}
 use Rattle.window.specs.declared.Window.{Window}
-use Rattle.window.specs.Window.{move_to, count_of, buffer_of, window_at, position_after}
+use Rattle.window.specs.Window.{moved_window, count_of, buffer_of, window_at, position_after}
 
 -- a distance added modulo 2^64: forward and back, without and with a wrap; `negsuc n` is -(n + 1)
 module _ (p : ℕ) (small : p < 2 ^ 64) where
@@ -24,14 +24,14 @@ module _ (p : ℕ) (small : p < 2 ^ 64) where
 
 -- a seek is judged by the sum of start and the new position
 module _ (w : Window) (p : ℕ) where
-  pub window_at-in : w.start + p < 2 ^ 64 → window_at w p ≡ Ok (move_to w p)
+  pub window_at-in : w.start + p < 2 ^ 64 → window_at w p ≡ Ok (moved_window w p)
   window_at-in h = let k : w.start + p ≤ 2 ^ 64 - 1 = omega arith in rw (le-ltb (2 ^ 64 - 1) (w.start + p))
 
   pub window_at-out : 2 ^ 64 ≤ w.start + p → window_at w p ≡ Err InvalidSeek
   window_at-out h = let k : 2 ^ 64 - 1 < w.start + p = omega arith in rw (lt-ltb (2 ^ 64 - 1) (w.start + p))
 
   -- a window that starts at 0 refuses no position
-  pub from-0 : w.start ≡ 0 → p < 2 ^ 64 → window_at w p ≡ Ok (move_to w p)
+  pub from-0 : w.start ≡ 0 → p < 2 ^ 64 → window_at w p ≡ Ok (moved_window w p)
   from-0 e h = window_at-in (omega arith)
 
 -- a read gives no more than was asked for, none past the window and none past the image, and stops only at one of the three

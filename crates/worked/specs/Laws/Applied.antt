@@ -9,9 +9,9 @@ use Rattle.endian.specs.Bytes.{be24, be32, be32_bytes, put, span, AllBytes}
 use Rattle.endian.specs.Laws.Stored.{length-put, put-outside}
 use Rattle.refusal.specs.Laws.Tests.{and_left, and_right}
 use Rattle.header.specs.Verdicts.{dol_offset, fst_size, fst_max_size}
-use Rattle.tree.specs.Table.{file, directory, none, count, name_at, node_at, nodes_from, nodes_of, parent_below, parent_of, entries_bytes, texts_of, encode}
-use Rattle.tree.specs.Insert.{shifted, bump, splice, insert_at, set_place}
-use Rattle.space.specs.Used.{inside, nonempty, total_size, no_region}
+use Rattle.tree.specs.Table.{file, directory, empty_root, count, name_at, node_at, nodes_from, nodes_of, parent_below, parent_of, entries_bytes, texts_of, encode}
+use Rattle.tree.specs.Insert.{number_after_insert, raised_next, splice, insert_at, set_place}
+use Rattle.space.specs.Used.{is_inside, nonempty_regions, total_size, no_region}
 use Rattle.space.specs.Free.{largest_size}
 use Rattle.space.specs.Listing.{rows_of}
 use Rattle.window.specs.Window.{new_window, count_of}
@@ -20,11 +20,11 @@ use Rattle.executable.specs.Program.{program_in, own_region}
 use Rattle.opened.specs.Opening.{table_of, nodes_in, used_in, free_space_of, used_of, opening, disc_of}
 use Rattle.disc.specs.Calls.{totals_answer, program_answer, free_regions_answer, free_regions_list, totals_of, record_answer}
 use Rattle.disc.specs.Files.{open_file_answer}
-use Rattle.edits.specs.Change.{nothing}
-use Rattle.edits.specs.Edits.{Edit, rewrite, resize_file, plan_resize, plan_of, image_after}
-use Rattle.ledger.specs.Ledger.{History, Ledger, bare, files_before, history_of, put_in, first_ledger}
-use Rattle.ledger.specs.Runs.{Call, image_after_all, accepted_in, AllWithin}
-use Rattle.ledger.specs.Spared.{number_after, Spared}
+use Rattle.edit_rules.specs.Change.{nothing}
+use Rattle.edit_rules.specs.Edits.{Edit, rewrite, resize_file, plan_resize, plan_of, image_after}
+use Rattle.ledger.specs.Ledger.{History, Ledger, node_without_place, files_before, history_of, put_in, first_ledger}
+use Rattle.ledger.specs.Runs.{Call, image_after_all, accepted_count, AllWithin}
+use Rattle.ledger.specs.Spared.{number_after, IsSpared}
 use Rattle.ledger.specs.Theorem.{LedgerHolds, StillThere, ShowsClip, Tells, WithinMaximum}
 use Rattle.ledger.proofs.Laws.AnyMaximum.{any-maximum}
 use Rattle.ledger.proofs.Laws.AfterAnyList.{ledger-holds, unnamed-stays}
@@ -70,15 +70,15 @@ unfolding list
 within w h = (omega arith, tt, (omega arith, tt, (omega arith, omega arith, (omega arith, omega arith, (omega arith, clip-bytes, (omega arith, omega arith, (omega arith, tt, tt)))))))
 
 -- no accepted call names `a`: the one that does is refused
-spared : Spared reports (first_ledger first) 0
-unfolding files_before put_in insert_at splice bump set_place shifted
+spared : IsSpared reports (first_ledger first) 0
+unfolding files_before put_in insert_at splice raised_next set_place number_after_insert
 spared = rw at_first.tree (λ e. refl, (λ e. refl, (λ e. absurd (false≢true e), (λ e. refl, (λ e. refl, (λ e. refl, (λ e. refl, tt)))))))
 
 -- ---- what holds after the list
 
 -- what the claim comes to for the file with entry number k, whichever that is
 any_file : {w : ℕ} {first image : List ℕ} {l : Ledger} → LedgerHolds w first image l →
-    (k : ℕ) (nm : List ℕ) (offset size : ℕ) → get_or (nodes_in image) k none ≡ file nm offset size → (h : History) → history_of l k ≡ h →
+    (k : ℕ) (nm : List ℕ) (offset size : ℕ) → get_or (nodes_in image) k empty_root ≡ file nm offset size → (h : History) → history_of l k ≡ h →
     (h.m ≤ size) × (h.m ≤ length h.bytes) × (span image offset h.m ≡ take h.m h.bytes)
     × (h.named ≡ false → (offset ≡ h.place) × (size ≡ length h.bytes) × (span image offset size ≡ h.bytes))
 any_file d k nm offset size e h is = let f = d.files k nm offset size e in (rw is at f.m-size, rw is at f.m-bytes, rw is at f.first-bytes, rw is at f.unnamed)
@@ -88,9 +88,9 @@ claim w h = rw (worked.image, worked.told, worked.entered) at (ledger-holds firs
 
 pub record LastHolds (w : ℕ) : Type 0 where
   pub opens : opening last w ≡ Ok tt
-  pub tree : map bare (nodes_in last) ≡ directory [] 3 ∷ file (0x61 ∷ []) 0 0x100 ∷ file (0x62 ∷ []) 0 5 ∷ []
+  pub tree : map node_without_place (nodes_in last) ≡ directory [] 3 ∷ file (0x61 ∷ []) 0 0x100 ∷ file (0x62 ∷ []) 0 5 ∷ []
   -- byte 0x500 is `a`'s, the third used region's, and no other's
-  pub apart : (j : ℕ) → inside (get_or (used_in last) j no_region) 0x500 ≡ true → j ≡ 2
+  pub apart : (j : ℕ) → is_inside (get_or (used_in last) j no_region) 0x500 ≡ true → j ≡ 2
   pub sum : total_size (free_space_of last) ≡ 6543
   pub used : totals_answer last w ≡ Ok (record { disc_end = 8192; used = 1649 })
   pub free : free_regions_answer last w 8 ≡ Ok 4
@@ -98,15 +98,15 @@ pub record LastHolds (w : ℕ) : Type 0 where
   pub program-stays : (dol_offset last ≡ 0x700) × (program_in last ≡ program) × (span last 0x700 0x104 ≡ program_bytes) × (0x804 ≤ length last)
   pub program-told : program_answer last w ≡ Ok (Some program)
   -- entry 1, `a`, is unnamed; entry 2, `b`, begins with the clip
-  pub of-a : (nm : List ℕ) (offset size : ℕ) → get_or (nodes_in last) 1 none ≡ file nm offset size → (offset ≡ 0x500) × (size ≡ 0x100) × (span last offset size ≡ of_a ++ replicate 0xF8 0)
-  pub of-b : (nm : List ℕ) (offset size : ℕ) → get_or (nodes_in last) 2 none ≡ file nm offset size → (3 ≤ size) × (3 ≤ length clip) × (span last offset 3 ≡ clip)
+  pub of-a : (nm : List ℕ) (offset size : ℕ) → get_or (nodes_in last) 1 empty_root ≡ file nm offset size → (offset ≡ 0x500) × (size ≡ 0x100) × (span last offset size ≡ of_a ++ replicate 0xF8 0)
+  pub of-b : (nm : List ℕ) (offset size : ℕ) → get_or (nodes_in last) 2 empty_root ≡ file nm offset size → (3 ≤ size) × (3 ≤ length clip) × (span last offset 3 ≡ clip)
 
 first-program : (dol_offset first ≡ 0x700) × (span first 0x700 0x104 ≡ program_bytes)
 unfolding first stating master put be32
 first-program = (refl, refl)
 
 pub last-holds : (w : ℕ) → master_words ≤ w → LastHolds w
-unfolding put rows_of nonempty program_in own_region total_size files_before
+unfolding put rows_of nonempty_regions program_in own_region total_size files_before
 last-holds w h =
     let d = claim w h in
     record {
@@ -126,9 +126,9 @@ last-holds w h =
 -- ---- `a`, which no accepted call named: it lies where it lay, as the first file of them
 
 found-still : (w : ℕ) → master_words ≤ w → StillThere first last 0 (0x61 ∷ []) 0x500 0x100
-unfolding files_before number_after put_in insert_at splice bump set_place shifted
+unfolding files_before number_after put_in insert_at splice raised_next set_place number_after_insert
 found-still w h =
-    let a : get_or (nodes_in first) 1 none ≡ file (0x61 ∷ []) 0x500 0x100 = rw at_first.tree in
+    let a : get_or (nodes_in first) 1 empty_root ≡ file (0x61 ∷ []) 0x500 0x100 = rw at_first.tree in
     let k : files_before 1 (nodes_in first) ≡ 0 = rw at_first.tree in
     rw (worked.image, worked.told, k, at_first.tree) at (unnamed-stays first master_words w list bytes at_first.opens h (within w h) 1 (0x61 ∷ []) 0x500 0x100 a (rw (worked.told, k) spared))
 
@@ -141,7 +141,7 @@ pub record Stays : Type 0 where
   pub bytes : span last 0x500 0x100 ≡ of_a ++ replicate 0xF8 0
 
 -- which entry of the last tree that is
-entry-a : (k : ℕ) → get_or (tree_b 0x900 5) k none ≡ file (0x61 ∷ []) 0x500 0x100 → k ≡ 1
+entry-a : (k : ℕ) → get_or (tree_b 0x900 5) k empty_root ≡ file (0x61 ∷ []) 0x500 0x100 → k ≡ 1
 entry-a zero e = let z : ◌≡◌ {A = ℕ} 0 1 = cc in absurd (omega arith)
 entry-a (suc zero) e = refl
 entry-a (suc (suc zero)) e = let z : ◌≡◌ {A = ℕ} 0x900 0x500 = cc in absurd (omega arith)
@@ -153,7 +153,7 @@ stays = record { entry = entry-a still.entry (rw at_last.tree at still.lies); nu
 -- ---- the record that was handed on, after five accepted calls
 
 tells : (w : ℕ) → master_words ≤ w → Tells last w 5 (totals 1649 5883 5)
-unfolding accepted_in
+unfolding accepted_count
 tells w h = rw (worked.image, worked.told, worked.handed-back) at (record-tells first master_words w fresh list bytes worked.made h (within w h) worked.handed-on)
 
 pub record Told (w : ℕ) : Type 0 where

@@ -4,16 +4,16 @@ use Rattle.endian.specs.Bytes.{be24, be32, be32_bytes, put}
 use Rattle.refusal.specs.declared.Refusal.{Refusal}
 use Rattle.refusal.specs.declared.Refusal.TheVariants.{UnrecognizedKind, UnsafeName, OverlappingRegions, InvalidDol}
 use Rattle.header.specs.Fields.{fields, gcn_magic_field, dol_offset_field, fst_offset_field, fst_size_field, user_size_field}
-use Rattle.header.specs.Verdicts.{gcn_magic, field_verdict, fields_verdict, header_verdict, bounds_verdict}
+use Rattle.header.specs.Verdicts.{gcn_magic, field_verdict, all_fields_verdict, header_verdict, bounds_verdict}
 use Rattle.tree.specs.Units.{units}
-use Rattle.tree.specs.Table.{plain, safe, count, name_at, node_at, nodes_from, nodes_of, entry_verdict, entries_verdict, unended, shut, name_verdict, next_verdict, walk, check}
+use Rattle.tree.specs.Table.{is_plain, is_safe, count, name_at, node_at, nodes_from, nodes_of, entry_verdict, entries_verdict, is_unended, dirs_open_at, name_verdict, next_verdict, walk, check}
 use Rattle.tree.specs.Faults.{first_refused, walk_refused, refused_entry}
-use Rattle.space.specs.Used.{nonempty}
-use Rattle.space.specs.Layout.{disjoint, disjoint_from_all, pairwise_disjoint, end_by, disjoint_below}
+use Rattle.space.specs.Used.{nonempty_regions}
+use Rattle.space.specs.Layout.{are_disjoint, is_disjoint_from_all, are_pairwise_disjoint, are_below, are_disjoint_below}
 use Rattle.executable.specs.Dol.{words_at, largest_of}
 use Rattle.executable.specs.Program.{program_of, program_in, own_region}
 use Rattle.executable.specs.Sections.{first_past, refused_section}
-use Rattle.opened.specs.Opening.{table_of, nodes_in, behind_table, used_in, layout_verdict, opening}
+use Rattle.opened.specs.Opening.{table_of, nodes_in, regions_behind_table, used_in, layout_verdict, opening}
 use Rattle.opened.specs.Faults.{conflict_with, first_conflict, about_of, fault_of}
 use Rattle.opened.specs.declared.faults.Owner.TheVariants as owner
 use Rattle.opened.specs.declared.faults.About.{About}
@@ -48,5 +48,5 @@ pub record Told : Type 0 where
   pub sum : told (with 0x600 0xFFFFFFFF 1 (disc 0 0x500 0x100 0x61)) ≡ fault InvalidDol (about.Section 9)
 
 pub all-told : Told
-unfolding put fault_of about_of refused_entry first_refused walk_refused refused_section first_past first_conflict conflict_with opening layout_verdict header_verdict fields_verdict field_verdict fields bounds_verdict table_of check nodes_in nodes_of nodes_from node_at name_at count entries_verdict entry_verdict unended walk name_verdict next_verdict shut plain safe be24 be32 used_in behind_table program_of program_in own_region words_at largest_of nonempty disjoint_below pairwise_disjoint disjoint_from_all disjoint end_by units
+unfolding put fault_of about_of refused_entry first_refused walk_refused refused_section first_past first_conflict conflict_with opening layout_verdict header_verdict all_fields_verdict field_verdict fields bounds_verdict table_of check nodes_in nodes_of nodes_from node_at name_at count entries_verdict entry_verdict is_unended walk name_verdict next_verdict dirs_open_at is_plain is_safe be24 be32 used_in regions_behind_table program_of program_in own_region words_at largest_of nonempty_regions are_disjoint_below are_pairwise_disjoint is_disjoint_from_all are_disjoint are_below units
 all-told = record { opens = refl; kind = refl; name = refl; table = refl; past_end = refl; program = refl; sum = refl }

@@ -7,21 +7,21 @@ use Rattle.endian.specs.Bytes.{be24, be32, put, span}
 use Rattle.refusal.specs.declared.Refusal.TheVariants.{LimitOrMemory, NoSuchEntry, ExpectedFile, NotEnoughSpace}
 use Rattle.refusal.specs.Refusal.{number_of}
 use Rattle.header.specs.Fields.{fields}
-use Rattle.header.specs.Verdicts.{field_verdict, fields_verdict, header_verdict, bounds_verdict}
+use Rattle.header.specs.Verdicts.{field_verdict, all_fields_verdict, header_verdict, bounds_verdict}
 use Rattle.tree.specs.Units.{units}
-use Rattle.tree.specs.Table.{file, directory, plain, safe, count, name_at, node_at, nodes_from, nodes_of, entry_verdict, entries_verdict, unended, shut, name_verdict, next_verdict, walk, check, parent_below, parent_of, entries_bytes, texts_of, encode, shallow_from, shallow, limits}
+use Rattle.tree.specs.Table.{file, directory, is_plain, is_safe, count, name_at, node_at, nodes_from, nodes_of, entry_verdict, entries_verdict, is_unended, dirs_open_at, name_verdict, next_verdict, walk, check, parent_below, parent_of, entries_bytes, texts_of, encode, is_shallow_from, is_shallow, limits}
 use Rattle.tree.specs.Insert.{set_place}
-use Rattle.space.specs.Used.{uses_byte, nonempty, total_size}
-use Rattle.space.specs.Layout.{disjoint, disjoint_from_all, pairwise_disjoint, end_by, disjoint_below}
+use Rattle.space.specs.Used.{is_used, nonempty_regions, total_size}
+use Rattle.space.specs.Layout.{are_disjoint, is_disjoint_from_all, are_pairwise_disjoint, are_below, are_disjoint_below}
 use Rattle.space.specs.Free.{runs, free_regions}
 use Rattle.space.specs.Align.{align_up}
-use Rattle.space.specs.MaxRegionSize.{beside_free, max_size_from}
-use Rattle.space.specs.Allocate.{better_of, largest, powers, allocation_of}
+use Rattle.space.specs.MaxRegionSize.{size_beside_free, max_size_from}
+use Rattle.space.specs.Allocate.{better_of, largest_rest, is_power_among, allocation_of}
 use Rattle.space.specs.Totals.{totals_verdict}
 use Rattle.executable.specs.Program.{program_of, program_in, own_region}
-use Rattle.opened.specs.Opening.{table_of, nodes_in, opening, used_of, used_in, behind_table, layout_verdict}
-use Rattle.edits.specs.Change.{with_table, written, table_verdict, place_verdict}
-use Rattle.edits.specs.Edits.{fill_file, plan_resize, plan_fill, counted_verdict, verdict_of, image_after}
+use Rattle.opened.specs.Opening.{table_of, nodes_in, opening, used_of, used_in, regions_behind_table, layout_verdict}
+use Rattle.edit_rules.specs.Change.{image_with_table, written_image, table_verdict, place_verdict}
+use Rattle.edit_rules.specs.Edits.{fill_file, plan_resize, plan_fill, counted_verdict, verdict_of, image_after}
 use Rattle.disc.specs.Calls.{totals_of}
 use Rattle.worked.specs.Laws.Worked.{verdict_on, after, small, large, of_b, large-opens, large-nodes, large-free, large-used, large-header, grown}
 
@@ -55,7 +55,7 @@ pub record Fills : Type 0 where
   pub refused : (verdict_on (fill_file 3 three) small ≡ Err NoSuchEntry) × (verdict_on (fill_file 0 three) small ≡ Err ExpectedFile)
 
 pub fills : Fills
-unfolding small plan_resize plan_fill put opening layout_verdict header_verdict fields_verdict field_verdict fields bounds_verdict table_of check nodes_in nodes_of nodes_from node_at name_at count entries_verdict entry_verdict unended walk name_verdict next_verdict shut plain safe be24 be32 used_in behind_table program_of program_in own_region nonempty disjoint_below pairwise_disjoint disjoint_from_all disjoint end_by free_regions runs uses_byte used_of total_size totals_verdict image_after verdict_of counted_verdict table_verdict place_verdict limits shallow shallow_from texts_of encode entries_bytes parent_of parent_below set_place written with_table max_size_from beside_free allocation_of powers largest better_of align_up units
+unfolding small plan_resize plan_fill put opening layout_verdict header_verdict all_fields_verdict field_verdict fields bounds_verdict table_of check nodes_in nodes_of nodes_from node_at name_at count entries_verdict entry_verdict is_unended walk name_verdict next_verdict dirs_open_at is_plain is_safe be24 be32 used_in regions_behind_table program_of program_in own_region nonempty_regions are_disjoint_below are_pairwise_disjoint is_disjoint_from_all are_disjoint are_below free_regions runs is_used used_of total_size totals_verdict image_after verdict_of counted_verdict table_verdict place_verdict limits is_shallow is_shallow_from texts_of encode entries_bytes parent_of parent_below set_place written_image image_with_table max_size_from size_beside_free allocation_of is_power_among largest_rest better_of align_up units
 fills = record {
   same = (refl, refl);
   shorter = (refl, refl);
@@ -70,19 +70,19 @@ fills = record {
 -- ---- up to 0x8040: `a` cannot grow before `b`, and goes to 0x8000
 
 moved-used : used_of (put grown 0x8000 twelve) ≡ 1144
-unfolding large put table_of nodes_in nodes_of nodes_from node_at name_at count be24 be32 texts_of encode entries_bytes parent_of parent_below written with_table used_of behind_table program_of program_in own_region total_size
+unfolding large put table_of nodes_in nodes_of nodes_from node_at name_at count be24 be32 texts_of encode entries_bytes parent_of parent_below written_image image_with_table used_of regions_behind_table program_of program_in own_region total_size
 moved-used = refl
 
 moves : verdict_on (fill_file 1 twelve) large ≡ Ok tt
-unfolding verdict_of counted_verdict totals_verdict plan_fill plan_resize max_size_from beside_free allocation_of powers largest better_of align_up table_verdict place_verdict limits shallow shallow_from shut texts_of encode entries_bytes parent_of parent_below set_place
+unfolding verdict_of counted_verdict totals_verdict plan_fill plan_resize max_size_from size_beside_free allocation_of is_power_among largest_rest better_of align_up table_verdict place_verdict limits is_shallow is_shallow_from dirs_open_at texts_of encode entries_bytes parent_of parent_below set_place
 moves = rw (large-opens, large-nodes, large-free, large-header.2, large-header.0, large-header.1, large-free, large-used, moved-used)
 
 moved-is : after (fill_file 1 twelve) large ≡ put grown 0x8000 twelve
-unfolding image_after plan_fill plan_resize max_size_from beside_free allocation_of powers largest better_of align_up set_place
+unfolding image_after plan_fill plan_resize max_size_from size_beside_free allocation_of is_power_among largest_rest better_of align_up set_place
 moved-is = rw (moves, large-nodes, large-free)
 
 moved-reads : (nodes_in (put grown 0x8000 twelve) ≡ directory [] 3 ∷ file (0x61 ∷ []) 0x8000 12 ∷ file (0x62 ∷ []) 0x508 4 ∷ []) × (span (put grown 0x8000 twelve) 0x8000 12 ≡ twelve) × (span (put grown 0x8000 twelve) 0x500 12 ≡ replicate 8 0 ++ of_b)
-unfolding large put table_of nodes_in nodes_of nodes_from node_at name_at count be24 be32 texts_of encode entries_bytes parent_of parent_below written with_table
+unfolding large put table_of nodes_in nodes_of nodes_from node_at name_at count be24 be32 texts_of encode entries_bytes parent_of parent_below written_image image_with_table
 moved-reads = (refl, refl, refl)
 
 pub record Moved : Type 0 where

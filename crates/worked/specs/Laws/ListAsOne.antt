@@ -1,7 +1,7 @@
 -- The worked list as one call: its edits come to its calls, and each answer is worked. Assumes nothing.
 use Rattle.std.specs.Prelude.{Ok, Err, ◌≡◌, List, [], ◌∷◌}
 use Rattle.refusal.specs.declared.Refusal.TheVariants.{OverlappingMove, TableAboveMaximum}
-use Rattle.edits.specs.Edits.{Edit, insert_file, move_file, resize_file, fill_file, rewrite}
+use Rattle.edit_rules.specs.Edits.{Edit, insert_file, move_file, resize_file, fill_file, rewrite}
 use Rattle.ledger.specs.Lists.{calls_of, answers_of}
 use Rattle.worked.specs.Image.{master_words}
 use Rattle.worked.specs.Laws.ListImages.{first, clip}

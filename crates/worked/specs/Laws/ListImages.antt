@@ -3,16 +3,16 @@ use Rattle.std.specs.Prelude.{Some, Ok}
 use Rattle.std.specs.Prelude.{ℕ, ◌+◌, ◌≡◌, refl, List, [], ◌∷◌, ◌++◌, map, replicate}
 use Rattle.endian.specs.Bytes.{be24, be32, be32_bytes, put}
 use Rattle.header.specs.Fields.{fields, dol_offset_field, fst_size_field}
-use Rattle.header.specs.Verdicts.{field_verdict, fields_verdict, header_verdict, bounds_verdict, fst_offset, fst_size, fst_max_size, disc_end}
+use Rattle.header.specs.Verdicts.{field_verdict, all_fields_verdict, header_verdict, bounds_verdict, fst_offset, fst_size, fst_max_size, disc_end}
 use Rattle.executable.specs.Dol.{words_at, largest_of}
 use Rattle.tree.specs.Units.{units}
-use Rattle.tree.specs.Table.{Node, file, directory, plain, safe, count, name_at, node_at, nodes_from, nodes_of, entry_verdict, entries_verdict, unended, shut, name_verdict, next_verdict, walk, check}
+use Rattle.tree.specs.Table.{Node, file, directory, is_plain, is_safe, count, name_at, node_at, nodes_from, nodes_of, entry_verdict, entries_verdict, is_unended, dirs_open_at, name_verdict, next_verdict, walk, check}
 use Rattle.space.specs.declared.region.DiscRegion.{DiscRegion}
-use Rattle.space.specs.Used.{used_regions, uses_byte, nonempty, total_size}
-use Rattle.space.specs.Layout.{disjoint, disjoint_from_all, pairwise_disjoint, end_by, disjoint_below}
+use Rattle.space.specs.Used.{used_regions, is_used, nonempty_regions, total_size}
+use Rattle.space.specs.Layout.{are_disjoint, is_disjoint_from_all, are_pairwise_disjoint, are_below, are_disjoint_below}
 use Rattle.space.specs.Free.{runs, free_regions}
 use Rattle.executable.specs.Program.{program_of, program_in, own_region}
-use Rattle.opened.specs.Opening.{table_of, nodes_in, opening, behind_table, region_of, used_in, free_space_of, used_of, layout_verdict}
+use Rattle.opened.specs.Opening.{table_of, nodes_in, opening, regions_behind_table, region_of, used_in, free_space_of, used_of, layout_verdict}
 use Rattle.worked.specs.Image.{master, master_words}
 use Rattle.worked.specs.Laws.Marked.{at}
 use Rattle.worked.specs.Laws.Maximum.{stating}
@@ -72,35 +72,35 @@ pub record Reads (image : List ℕ) (nodes : List Node) (free : List DiscRegion)
 
 module _ {image : List ℕ} {nodes : List Node} {free : List DiscRegion} {size used : ℕ} (r : Reads image nodes free size used) where
   pub used-regions : used_in image ≡ used_regions (0x440 + size) (own_region 0x440 program ∷ map region_of nodes)
-  unfolding used_in behind_table program_in
+  unfolding used_in regions_behind_table program_in
   used-regions = rw (r.runs, r.tree, r.header.0, r.header.1)
 
   pub space : free_space_of image ≡ free
   space = rw (used-regions, r.header.3) r.gaps
 
   pub total : used_of image ≡ used
-  unfolding used_of behind_table program_in
+  unfolding used_of regions_behind_table program_in
   total = rw (r.runs, r.tree, r.header.0, r.header.1) r.sizes
 
 abbrev pub tree_b : ℕ → ℕ → List Node
 tree_b o n = directory [] 3 ∷ file (0x61 ∷ []) 0x500 0x100 ∷ file (0x62 ∷ []) o n ∷ []
 
 pub at_first : Reads first (directory [] 2 ∷ file (0x61 ∷ []) 0x500 0x100 ∷ []) (at 1114 166 ∷ at 1536 256 ∷ at 2052 6140 ∷ []) 0x1A 1630
-unfolding first stating master put opening layout_verdict header_verdict fields_verdict field_verdict fields bounds_verdict table_of check nodes_in nodes_of nodes_from node_at name_at count entries_verdict entry_verdict unended walk name_verdict next_verdict shut plain safe be24 be32 used_in behind_table program_of program_in own_region words_at largest_of nonempty disjoint_below pairwise_disjoint disjoint_from_all disjoint end_by units free_regions runs uses_byte total_size
+unfolding first stating master put opening layout_verdict header_verdict all_fields_verdict field_verdict fields bounds_verdict table_of check nodes_in nodes_of nodes_from node_at name_at count entries_verdict entry_verdict is_unended walk name_verdict next_verdict dirs_open_at is_plain is_safe be24 be32 used_in regions_behind_table program_of program_in own_region words_at largest_of nonempty_regions are_disjoint_below are_pairwise_disjoint is_disjoint_from_all are_disjoint are_below units free_regions runs is_used total_size
 at_first = record { opens = refl; tree = refl; runs = refl; header = (refl, refl, refl, refl); gaps = refl; sizes = refl }
 
 pub at-inserted : Reads (with_b 0 0 []) (tree_b 0 0) (at 1128 152 ∷ at 1536 256 ∷ at 2052 6140 ∷ []) 0x28 1644
-unfolding with_b first stating master put opening layout_verdict header_verdict fields_verdict field_verdict fields bounds_verdict table_of check nodes_in nodes_of nodes_from node_at name_at count entries_verdict entry_verdict unended walk name_verdict next_verdict shut plain safe be24 be32 used_in behind_table program_of program_in own_region words_at largest_of nonempty disjoint_below pairwise_disjoint disjoint_from_all disjoint end_by units free_regions runs uses_byte total_size
+unfolding with_b first stating master put opening layout_verdict header_verdict all_fields_verdict field_verdict fields bounds_verdict table_of check nodes_in nodes_of nodes_from node_at name_at count entries_verdict entry_verdict is_unended walk name_verdict next_verdict dirs_open_at is_plain is_safe be24 be32 used_in regions_behind_table program_of program_in own_region words_at largest_of nonempty_regions are_disjoint_below are_pairwise_disjoint is_disjoint_from_all are_disjoint are_below units free_regions runs is_used total_size
 at-inserted = record { opens = refl; tree = refl; runs = refl; header = (refl, refl, refl, refl); gaps = refl; sizes = refl }
 
 pub at_moved : Reads (with_b 0x900 0 []) (tree_b 0x900 0) (at 1128 152 ∷ at 1536 256 ∷ at 2052 6140 ∷ []) 0x28 1644
-unfolding with_b first stating master put opening layout_verdict header_verdict fields_verdict field_verdict fields bounds_verdict table_of check nodes_in nodes_of nodes_from node_at name_at count entries_verdict entry_verdict unended walk name_verdict next_verdict shut plain safe be24 be32 used_in behind_table program_of program_in own_region words_at largest_of nonempty disjoint_below pairwise_disjoint disjoint_from_all disjoint end_by units free_regions runs uses_byte total_size
+unfolding with_b first stating master put opening layout_verdict header_verdict all_fields_verdict field_verdict fields bounds_verdict table_of check nodes_in nodes_of nodes_from node_at name_at count entries_verdict entry_verdict is_unended walk name_verdict next_verdict dirs_open_at is_plain is_safe be24 be32 used_in regions_behind_table program_of program_in own_region words_at largest_of nonempty_regions are_disjoint_below are_pairwise_disjoint is_disjoint_from_all are_disjoint are_below units free_regions runs is_used total_size
 at_moved = record { opens = refl; tree = refl; runs = refl; header = (refl, refl, refl, refl); gaps = refl; sizes = refl }
 
 pub at-filled : Reads (with_b 0x900 3 clip) (tree_b 0x900 3) (at 1128 152 ∷ at 1536 256 ∷ at 2052 252 ∷ at 2307 5885 ∷ []) 0x28 1647
-unfolding with_b first stating master put opening layout_verdict header_verdict fields_verdict field_verdict fields bounds_verdict table_of check nodes_in nodes_of nodes_from node_at name_at count entries_verdict entry_verdict unended walk name_verdict next_verdict shut plain safe be24 be32 used_in behind_table program_of program_in own_region words_at largest_of nonempty disjoint_below pairwise_disjoint disjoint_from_all disjoint end_by units free_regions runs uses_byte total_size
+unfolding with_b first stating master put opening layout_verdict header_verdict all_fields_verdict field_verdict fields bounds_verdict table_of check nodes_in nodes_of nodes_from node_at name_at count entries_verdict entry_verdict is_unended walk name_verdict next_verdict dirs_open_at is_plain is_safe be24 be32 used_in regions_behind_table program_of program_in own_region words_at largest_of nonempty_regions are_disjoint_below are_pairwise_disjoint is_disjoint_from_all are_disjoint are_below units free_regions runs is_used total_size
 at-filled = record { opens = refl; tree = refl; runs = refl; header = (refl, refl, refl, refl); gaps = refl; sizes = refl }
 
 pub at_last : Reads last (tree_b 0x900 5) (at 1128 152 ∷ at 1536 256 ∷ at 2052 252 ∷ at 2309 5883 ∷ []) 0x28 1649
-unfolding with_b first stating master put opening layout_verdict header_verdict fields_verdict field_verdict fields bounds_verdict table_of check nodes_in nodes_of nodes_from node_at name_at count entries_verdict entry_verdict unended walk name_verdict next_verdict shut plain safe be24 be32 used_in behind_table program_of program_in own_region words_at largest_of nonempty disjoint_below pairwise_disjoint disjoint_from_all disjoint end_by units free_regions runs uses_byte total_size
+unfolding with_b first stating master put opening layout_verdict header_verdict all_fields_verdict field_verdict fields bounds_verdict table_of check nodes_in nodes_of nodes_from node_at name_at count entries_verdict entry_verdict is_unended walk name_verdict next_verdict dirs_open_at is_plain is_safe be24 be32 used_in regions_behind_table program_of program_in own_region words_at largest_of nonempty_regions are_disjoint_below are_pairwise_disjoint is_disjoint_from_all are_disjoint are_below units free_regions runs is_used total_size
 at_last = record { opens = refl; tree = refl; runs = refl; header = (refl, refl, refl, refl); gaps = refl; sizes = refl }

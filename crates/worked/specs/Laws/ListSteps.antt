@@ -3,23 +3,23 @@
 use Rattle.std.specs.Prelude.{Ok, Err}
 use Rattle.refusal.specs.Refusal.{Verdict}
 use Rattle.std.specs.Prelude.{ℕ, ◌≡◌, refl, List, [], ◌∷◌}
-use Rattle.endian.specs.Bytes.{be32, put, same_bytes}
+use Rattle.endian.specs.Bytes.{be32, put, are_same_bytes}
 use Rattle.refusal.specs.declared.Refusal.{Refusal}
 use Rattle.refusal.specs.declared.Refusal.TheVariants.{OverlappingMove, TableAboveMaximum}
 use Rattle.tree.specs.Units.{units}
-use Rattle.tree.specs.Table.{Node, plain, safe, shut, parent_below, parent_of, entries_bytes, texts_of, encode, shallow_from, shallow, limits}
+use Rattle.tree.specs.Table.{Node, is_plain, is_safe, dirs_open_at, parent_below, parent_of, entries_bytes, texts_of, encode, is_shallow_from, is_shallow, limits}
 use Rattle.tree.specs.Lookup.{first_child, child_of}
-use Rattle.tree.specs.Insert.{bump, splice, insert_at, set_place}
+use Rattle.tree.specs.Insert.{raised_next, splice, insert_at, set_place}
 use Rattle.space.specs.declared.region.DiscRegion.{DiscRegion}
 use Rattle.space.specs.Used.{no_region}
 use Rattle.space.specs.Free.{largest_size}
-use Rattle.space.specs.MaxRegionSize.{beside_free, max_size_from}
+use Rattle.space.specs.MaxRegionSize.{size_beside_free, max_size_from}
 use Rattle.space.specs.declared.totals.Totals.{Totals}
-use Rattle.space.specs.Totals.{totals_verdict, totals_moved}
+use Rattle.space.specs.Totals.{totals_verdict, moved_totals}
 use Rattle.opened.specs.Opening.{disc_of}
-use Rattle.edits.specs.Change.{Change, Plan, change, filled, with_table, written, table_verdict, place_verdict}
-use Rattle.edits.specs.Edits.{Edit, insert_file, move_file, resize_file, fill_file, rewrite, table_only, relocated, resized, insert_verdict, plan_move, plan_resize, plan_fill, plan_of, plan_verdict, plan_image, counted_verdict, verdict_of, image_after, totals_after}
-use Rattle.edits.proofs.Laws.Accepted.{refused-back}
+use Rattle.edit_rules.specs.Change.{Change, Plan, change, filled, image_with_table, written_image, table_verdict, place_verdict}
+use Rattle.edit_rules.specs.Edits.{Edit, insert_file, move_file, resize_file, fill_file, rewrite, table_change, relocation_change, resize_change, insert_verdict, plan_move, plan_resize, plan_fill, plan_of, plan_verdict, plan_image, counted_verdict, verdict_of, image_after, totals_after}
+use Rattle.edit_rules.proofs.Laws.Accepted.{refused-back}
 use Rattle.worked.specs.Image.{master, master_words}
 use Rattle.worked.specs.Laws.Marked.{at}
 use Rattle.worked.specs.Laws.Maximum.{stating}
@@ -39,7 +39,7 @@ pub record Step (v : Verdict) (ed : Edit) (t : Totals) (image next : List ℕ) (
   pub counted : totals_after ed t image master_words 0x36 ≡ t'
 
 module _ {image next : List ℕ} {nodes nodes' : List Node} {free free' : List DiscRegion} {size size' used used' : ℕ} (r : Reads image nodes free size used) (r' : Reads next nodes' free' size' used') where
-  step : (ed : Edit) (p : Plan) (t t' : Totals) → plan_of ed (disc_of image) ≡ p → plan_verdict p (disc_of image) master_words 0x36 ≡ Ok tt → plan_image p image ≡ next → totals_verdict t used used' ≡ Ok tt → totals_moved t used used' (largest_size free') ≡ t' → Step (Ok tt) ed t image next t'
+  step : (ed : Edit) (p : Plan) (t t' : Totals) → plan_of ed (disc_of image) ≡ p → plan_verdict p (disc_of image) master_words 0x36 ≡ Ok tt → plan_image p image ≡ next → totals_verdict t used used' ≡ Ok tt → moved_totals t used used' (largest_size free') ≡ t' → Step (Ok tt) ed t image next t'
   unfolding image_after totals_after verdict_of counted_verdict
   step ed p t t' plan tests writes counts moves =
       let v : verdict_of ed t image master_words 0x36 ≡ Ok tt = rw (r.opens, plan, tests, writes, total r, total r') counts in
@@ -50,26 +50,26 @@ module _ {image next : List ℕ} {nodes nodes' : List Node} {free free' : List D
 abbrev insert_b : Edit
 insert_b = insert_file 0 (0x62 ∷ [])
 
-pub insert-plan : plan_of insert_b (disc_of first) ≡ change 2 (table_only (tree_b 0 0))
-unfolding insert_verdict insert_at splice bump child_of first_child same_bytes plain safe parent_of parent_below shut units
+pub insert-plan : plan_of insert_b (disc_of first) ≡ change 2 (table_change (tree_b 0 0))
+unfolding insert_verdict insert_at splice raised_next child_of first_child are_same_bytes is_plain is_safe parent_of parent_below dirs_open_at units
 insert-plan = rw at_first.tree
 
-insert-tests : plan_verdict (change 2 (table_only (tree_b 0 0))) (disc_of first) master_words 0x36 ≡ Ok tt
-unfolding table_verdict place_verdict limits shallow shallow_from shut texts_of encode entries_bytes parent_of parent_below max_size_from beside_free
+insert-tests : plan_verdict (change 2 (table_change (tree_b 0 0))) (disc_of first) master_words 0x36 ≡ Ok tt
+unfolding table_verdict place_verdict limits is_shallow is_shallow_from dirs_open_at texts_of encode entries_bytes parent_of parent_below max_size_from size_beside_free
 insert-tests = rw (space at_first, at_first.header.2, at_first.header.0, at_first.header.1)
 
-insert-writes : plan_image (change 2 (table_only (tree_b 0 0))) first ≡ with_b 0 0 []
-unfolding with_b first stating master put be32 texts_of encode entries_bytes parent_of parent_below written with_table
+insert-writes : plan_image (change 2 (table_change (tree_b 0 0))) first ≡ with_b 0 0 []
+unfolding with_b first stating master put be32 texts_of encode entries_bytes parent_of parent_below written_image image_with_table
 insert-writes = refl
 
 pub inserted : Step (Ok tt) insert_b fresh first (with_b 0 0 []) (totals 1644 6140 1)
-unfolding totals_verdict totals_moved largest_size
+unfolding totals_verdict moved_totals largest_size
 inserted = step at_first at-inserted insert_b _ fresh _ insert-plan insert-tests insert-writes refl refl
 
 -- one entry more: 26; `a` onto itself: 20
 
 above-tests : verdict_of (insert_file 0 (0x63 ∷ [])) (totals 1644 6140 1) (with_b 0 0 []) master_words 0x36 ≡ Err TableAboveMaximum
-unfolding verdict_of counted_verdict table_verdict place_verdict limits shallow shallow_from shut texts_of encode entries_bytes parent_of parent_below max_size_from beside_free insert_verdict insert_at splice bump child_of first_child same_bytes plain safe units
+unfolding verdict_of counted_verdict table_verdict place_verdict limits is_shallow is_shallow_from dirs_open_at texts_of encode entries_bytes parent_of parent_below max_size_from size_beside_free insert_verdict insert_at splice raised_next child_of first_child are_same_bytes is_plain is_safe units
 above-tests = rw (at-inserted.opens, at-inserted.tree, at-inserted.header.2)
 
 onto-itself-tests : verdict_of (move_file 1 0x580) (totals 1644 6140 1) (with_b 0 0 []) master_words 0x36 ≡ Err OverlappingMove
@@ -89,79 +89,79 @@ onto-itself = refused OverlappingMove (move_file 1 0x580) (totals 1644 6140 1) (
 -- `b`, which is empty, to where there is room
 
 abbrev move_b : Change
-move_b = relocated (tree_b 0 0) 2 no_region (at 0x900 0)
+move_b = relocation_change (tree_b 0 0) 2 no_region (at 0x900 0)
 
 pub move-plan : plan_of (move_file 2 0x900) (disc_of (with_b 0 0 [])) ≡ change 2 move_b
-unfolding plan_move max_size_from beside_free
+unfolding plan_move max_size_from size_beside_free
 move-plan = rw (at-inserted.tree, space at-inserted)
 
 move-tests : plan_verdict (change 2 move_b) (disc_of (with_b 0 0 [])) master_words 0x36 ≡ Ok tt
-unfolding table_verdict place_verdict limits shallow shallow_from shut texts_of encode entries_bytes parent_of parent_below max_size_from beside_free set_place
+unfolding table_verdict place_verdict limits is_shallow is_shallow_from dirs_open_at texts_of encode entries_bytes parent_of parent_below max_size_from size_beside_free set_place
 move-tests = rw (space at-inserted, at-inserted.header.2, at-inserted.header.0, at-inserted.header.1)
 
 move-writes : plan_image (change 2 move_b) (with_b 0 0 []) ≡ with_b 0x900 0 []
-unfolding with_b first stating master put be32 texts_of encode entries_bytes parent_of parent_below written with_table set_place
+unfolding with_b first stating master put be32 texts_of encode entries_bytes parent_of parent_below written_image image_with_table set_place
 move-writes = refl
 
 pub moved : Step (Ok tt) (move_file 2 0x900) (totals 1644 6140 1) (with_b 0 0 []) (with_b 0x900 0 []) (totals 1644 6140 2)
-unfolding totals_verdict totals_moved largest_size
+unfolding totals_verdict moved_totals largest_size
 moved = step at-inserted at_moved (move_file 2 0x900) _ (totals 1644 6140 1) _ move-plan move-tests move-writes refl refl
 
 -- the clip
 
 abbrev grow_b : Change
-grow_b = resized (tree_b 0x900 0) 2 (at 0x900 0) 3
+grow_b = resize_change (tree_b 0x900 0) 2 (at 0x900 0) 3
 
 pub fill-plan : plan_of (fill_file 2 clip) (disc_of (with_b 0x900 0 [])) ≡ filled 2 clip (change 2 grow_b)
-unfolding plan_fill plan_resize max_size_from beside_free
+unfolding plan_fill plan_resize max_size_from size_beside_free
 fill-plan = rw (at_moved.tree, space at_moved)
 
 fill-tests : plan_verdict (filled 2 clip (change 2 grow_b)) (disc_of (with_b 0x900 0 [])) master_words 0x36 ≡ Ok tt
-unfolding table_verdict place_verdict limits shallow shallow_from shut texts_of encode entries_bytes parent_of parent_below max_size_from beside_free set_place
+unfolding table_verdict place_verdict limits is_shallow is_shallow_from dirs_open_at texts_of encode entries_bytes parent_of parent_below max_size_from size_beside_free set_place
 fill-tests = rw (space at_moved, at_moved.header.2, at_moved.header.0, at_moved.header.1)
 
 fill-writes : plan_image (filled 2 clip (change 2 grow_b)) (with_b 0x900 0 []) ≡ with_b 0x900 3 clip
-unfolding with_b first stating master put be32 texts_of encode entries_bytes parent_of parent_below written with_table set_place
+unfolding with_b first stating master put be32 texts_of encode entries_bytes parent_of parent_below written_image image_with_table set_place
 fill-writes = refl
 
 pub filled-b : Step (Ok tt) (fill_file 2 clip) (totals 1644 6140 2) (with_b 0x900 0 []) (with_b 0x900 3 clip) (totals 1647 5885 3)
-unfolding totals_verdict totals_moved largest_size
+unfolding totals_verdict moved_totals largest_size
 filled-b = step at_moved at-filled (fill_file 2 clip) _ (totals 1644 6140 2) _ fill-plan fill-tests fill-writes refl refl
 
 -- two bytes more
 
 abbrev more_b : Change
-more_b = resized (tree_b 0x900 3) 2 (at 0x900 3) 5
+more_b = resize_change (tree_b 0x900 3) 2 (at 0x900 3) 5
 
 pub resize-plan : plan_of (resize_file 2 5) (disc_of (with_b 0x900 3 clip)) ≡ change 2 more_b
-unfolding plan_resize max_size_from beside_free
+unfolding plan_resize max_size_from size_beside_free
 resize-plan = rw (at-filled.tree, space at-filled)
 
 resize-tests : plan_verdict (change 2 more_b) (disc_of (with_b 0x900 3 clip)) master_words 0x36 ≡ Ok tt
-unfolding table_verdict place_verdict limits shallow shallow_from shut texts_of encode entries_bytes parent_of parent_below max_size_from beside_free set_place
+unfolding table_verdict place_verdict limits is_shallow is_shallow_from dirs_open_at texts_of encode entries_bytes parent_of parent_below max_size_from size_beside_free set_place
 resize-tests = rw (space at-filled, at-filled.header.2, at-filled.header.0, at-filled.header.1)
 
 resize-writes : plan_image (change 2 more_b) (with_b 0x900 3 clip) ≡ last
-unfolding with_b first stating master put be32 texts_of encode entries_bytes parent_of parent_below written with_table set_place
+unfolding with_b first stating master put be32 texts_of encode entries_bytes parent_of parent_below written_image image_with_table set_place
 resize-writes = refl
 
 pub resized-b : Step (Ok tt) (resize_file 2 5) (totals 1647 5885 3) (with_b 0x900 3 clip) last (totals 1649 5883 4)
-unfolding totals_verdict totals_moved largest_size
+unfolding totals_verdict moved_totals largest_size
 resized-b = step at-filled at_last (resize_file 2 5) _ (totals 1647 5885 3) _ resize-plan resize-tests resize-writes refl refl
 
 -- the table written anew
 
-rewrite-plan : plan_of rewrite (disc_of last) ≡ change 0 (table_only (tree_b 0x900 5))
+rewrite-plan : plan_of rewrite (disc_of last) ≡ change 0 (table_change (tree_b 0x900 5))
 rewrite-plan = rw at_last.tree
 
-rewrite-tests : plan_verdict (change 0 (table_only (tree_b 0x900 5))) (disc_of last) master_words 0x36 ≡ Ok tt
-unfolding table_verdict place_verdict limits shallow shallow_from shut texts_of encode entries_bytes parent_of parent_below max_size_from beside_free
+rewrite-tests : plan_verdict (change 0 (table_change (tree_b 0x900 5))) (disc_of last) master_words 0x36 ≡ Ok tt
+unfolding table_verdict place_verdict limits is_shallow is_shallow_from dirs_open_at texts_of encode entries_bytes parent_of parent_below max_size_from size_beside_free
 rewrite-tests = rw (space at_last, at_last.header.2, at_last.header.0, at_last.header.1)
 
-rewrite-writes : plan_image (change 0 (table_only (tree_b 0x900 5))) last ≡ last
-unfolding with_b first stating master put be32 texts_of encode entries_bytes parent_of parent_below written with_table
+rewrite-writes : plan_image (change 0 (table_change (tree_b 0x900 5))) last ≡ last
+unfolding with_b first stating master put be32 texts_of encode entries_bytes parent_of parent_below written_image image_with_table
 rewrite-writes = refl
 
 pub rewritten : Step (Ok tt) rewrite (totals 1649 5883 4) last last (totals 1649 5883 5)
-unfolding totals_verdict totals_moved largest_size
+unfolding totals_verdict moved_totals largest_size
 rewritten = step at_last at_last rewrite _ (totals 1649 5883 4) _ rewrite-plan rewrite-tests rewrite-writes refl refl

@@ -3,44 +3,44 @@
 use Rattle.std.specs.Prelude.{None, Ok, Err}
 use Rattle.refusal.specs.Refusal.{Verdict}
 use Rattle.std.specs.Prelude.{ℕ, ◌+◌, ◌-◌, ◌≡◌, refl, List, [], ◌∷◌, negsuc}
-use Rattle.endian.specs.Bytes.{be24, be32, put, same_bytes}
+use Rattle.endian.specs.Bytes.{be24, be32, put, are_same_bytes}
 use Rattle.refusal.specs.declared.Refusal.TheVariants.{LimitOrMemory, ExpectedDirectory, NotFound, OverlappingMove, NotEnoughSpace, InvalidSeek}
 use Rattle.refusal.specs.Refusal.{number_of}
 use Rattle.header.specs.Fields.{fields}
-use Rattle.header.specs.Verdicts.{field_verdict, fields_verdict, header_verdict, bounds_verdict, fst_offset, fst_size, fst_max_size, disc_end}
+use Rattle.header.specs.Verdicts.{field_verdict, all_fields_verdict, header_verdict, bounds_verdict, fst_offset, fst_size, fst_max_size, disc_end}
 use Rattle.window.specs.declared.Window.{Window}
 use Rattle.std.specs.declared.io.SeekFrom.TheVariants.{Current}
 use Rattle.window.specs.Window.{seek_of, new_window}
 use Rattle.tree.specs.declared.Entry.TheVariants.{File, Directory}
 use Rattle.tree.specs.declared.Found.TheVariants as found
 use Rattle.tree.specs.Units.{units}
-use Rattle.tree.specs.Table.{file, directory, plain, safe, count, name_at, node_at, nodes_from, nodes_of, entry_verdict, entries_verdict, unended, shut, name_verdict, next_verdict, walk, check, parent_below, parent_of, entries_bytes, texts_of, encode, shallow_from, shallow, limits}
+use Rattle.tree.specs.Table.{file, directory, is_plain, is_safe, count, name_at, node_at, nodes_from, nodes_of, entry_verdict, entries_verdict, is_unended, dirs_open_at, name_verdict, next_verdict, walk, check, parent_below, parent_of, entries_bytes, texts_of, encode, is_shallow_from, is_shallow, limits}
 use Rattle.tree.specs.Lookup.{components_of, components, first_child, child_of, follow, lookup}
 use Rattle.tree.specs.Insert.{set_place}
 use Rattle.space.specs.declared.region.DiscRegion.{DiscRegion}
-use Rattle.space.specs.Used.{uses_byte, nonempty, total_size}
-use Rattle.space.specs.Layout.{disjoint, disjoint_from_all, pairwise_disjoint, end_by, disjoint_below}
+use Rattle.space.specs.Used.{is_used, nonempty_regions, total_size}
+use Rattle.space.specs.Layout.{are_disjoint, is_disjoint_from_all, are_pairwise_disjoint, are_below, are_disjoint_below}
 use Rattle.space.specs.Free.{runs, free_regions}
 use Rattle.space.specs.Clusters.{bytes_before, whole_clusters, exact_rest}
-use Rattle.space.specs.MaxRegionSize.{beside_free, max_size_from}
+use Rattle.space.specs.MaxRegionSize.{size_beside_free, max_size_from}
 use Rattle.space.specs.Align.{align_up}
-use Rattle.space.specs.Allocate.{better_of, largest, powers, allocation_of}
+use Rattle.space.specs.Allocate.{better_of, largest_rest, is_power_among, allocation_of}
 use Rattle.space.specs.Listing.{rows_of}
 use Rattle.space.specs.declared.totals.Totals.{Totals}
 use Rattle.space.specs.Totals.{totals_verdict}
 use Rattle.executable.specs.Program.{program_of, program_in, own_region}
-use Rattle.opened.specs.Opening.{table_of, nodes_in, opening, free_space_of, used_of, used_in, behind_table, layout_verdict}
+use Rattle.opened.specs.Opening.{table_of, nodes_in, opening, free_space_of, used_of, used_in, regions_behind_table, layout_verdict}
 use Rattle.disc.specs.Files.{entry_answer, lookup_answer, max_file_size_answer, open_file_answer}
 use Rattle.disc.specs.Calls.{totals_answer, free_answer, free_list, free_regions_answer, free_regions_list, free_clusters_answer, free_clusters_list, allocate_answer}
 use Rattle.opened.specs.Answers.{max_region_size_answer}
-use Rattle.edits.specs.Change.{with_table, written, table_verdict, place_verdict}
-use Rattle.edits.specs.Edits.{Edit, move_file, resize_file, plan_move, plan_resize, counted_verdict, verdict_of, image_after}
+use Rattle.edit_rules.specs.Change.{image_with_table, written_image, table_verdict, place_verdict}
+use Rattle.edit_rules.specs.Edits.{Edit, move_file, resize_file, plan_move, plan_resize, counted_verdict, verdict_of, image_after}
 use Rattle.worked.specs.Image.{master, master_words, master_bytes}
 
 -- ---- the image opens, and what it reads as
 
 pub opens : opening master master_words ≡ Ok tt
-unfolding master put opening layout_verdict header_verdict fields_verdict field_verdict fields bounds_verdict table_of check nodes_in nodes_of nodes_from node_at name_at count entries_verdict entry_verdict unended walk name_verdict next_verdict shut plain safe be24 be32 used_in behind_table program_of program_in own_region nonempty disjoint_below pairwise_disjoint disjoint_from_all disjoint end_by units
+unfolding master put opening layout_verdict header_verdict all_fields_verdict field_verdict fields bounds_verdict table_of check nodes_in nodes_of nodes_from node_at name_at count entries_verdict entry_verdict is_unended walk name_verdict next_verdict dirs_open_at is_plain is_safe be24 be32 used_in regions_behind_table program_of program_in own_region nonempty_regions are_disjoint_below are_pairwise_disjoint is_disjoint_from_all are_disjoint are_below units
 opens = refl
 
 pub nodes : nodes_in master ≡ directory [] 2 ∷ file (0x61 ∷ []) 0x500 0x100 ∷ []
@@ -61,11 +61,11 @@ abbrev pub at : ℕ → ℕ → DiscRegion
 at o n = record { offset = o; size = n }
 
 pub free : free_space_of master ≡ at 1114 166 ∷ at 1536 6656 ∷ []
-unfolding master put table_of nodes_in nodes_of nodes_from node_at name_at count be24 be32 used_in behind_table program_of program_in own_region free_regions runs uses_byte nonempty
+unfolding master put table_of nodes_in nodes_of nodes_from node_at name_at count be24 be32 used_in regions_behind_table program_of program_in own_region free_regions runs is_used nonempty_regions
 free = refl
 
 pub used : used_of master ≡ 1370
-unfolding used_of behind_table program_in own_region total_size
+unfolding used_of regions_behind_table program_in own_region total_size
 used = rw (nodes, no_program, header.0, header.1)
 
 -- the record made of it (Records)
@@ -75,7 +75,7 @@ fresh = record { used = 1370; largest = 6656; edits = 0 }
 -- ---- what is written when `a` goes elsewhere, or gets n bytes where it is
 
 abbrev written_for : DiscRegion → ℕ → DiscRegion → List ℕ
-written_for place kept lost = written (record {
+written_for place kept lost = written_image (record {
   nodes = directory [] 2 ∷ file (0x61 ∷ []) place.offset place.size ∷ [];
   old = at 0x500 0x100;
   place = place;
@@ -90,19 +90,19 @@ abbrev pub resized_a : ℕ → List ℕ
 resized_a n = written_for (at 0x500 n) 0 (at (0x500 + n) (0x100 - n))
 
 pub moved-used : used_of (moved_a 0x600) ≡ 1370
-unfolding master put table_of nodes_in nodes_of nodes_from node_at name_at count be24 be32 texts_of encode entries_bytes parent_of parent_below written with_table used_of behind_table program_of program_in own_region total_size
+unfolding master put table_of nodes_in nodes_of nodes_from node_at name_at count be24 be32 texts_of encode entries_bytes parent_of parent_below written_image image_with_table used_of regions_behind_table program_of program_in own_region total_size
 moved-used = refl
 
 moved-opens : opening (moved_a 0x600) master_words ≡ Ok tt
-unfolding master put opening layout_verdict header_verdict fields_verdict field_verdict fields bounds_verdict table_of check nodes_in nodes_of nodes_from node_at name_at count entries_verdict entry_verdict unended walk name_verdict next_verdict shut plain safe be24 be32 used_in behind_table program_of program_in own_region nonempty disjoint_below pairwise_disjoint disjoint_from_all disjoint end_by texts_of encode entries_bytes parent_of parent_below written with_table units
+unfolding master put opening layout_verdict header_verdict all_fields_verdict field_verdict fields bounds_verdict table_of check nodes_in nodes_of nodes_from node_at name_at count entries_verdict entry_verdict is_unended walk name_verdict next_verdict dirs_open_at is_plain is_safe be24 be32 used_in regions_behind_table program_of program_in own_region nonempty_regions are_disjoint_below are_pairwise_disjoint is_disjoint_from_all are_disjoint are_below texts_of encode entries_bytes parent_of parent_below written_image image_with_table units
 moved-opens = refl
 
 pub moved-free : free_space_of (moved_a 0x600) ≡ at 0x45A 0x1A6 ∷ at 0x700 0x1900 ∷ []
-unfolding master put table_of nodes_in nodes_of nodes_from node_at name_at count be24 be32 texts_of encode entries_bytes parent_of parent_below written with_table used_in behind_table program_of program_in own_region free_regions runs uses_byte nonempty
+unfolding master put table_of nodes_in nodes_of nodes_from node_at name_at count be24 be32 texts_of encode entries_bytes parent_of parent_below written_image image_with_table used_in regions_behind_table program_of program_in own_region free_regions runs is_used nonempty_regions
 moved-free = refl
 
 resized-used : used_of (resized_a 0x1B00) ≡ 8026
-unfolding master put table_of nodes_in nodes_of nodes_from node_at name_at count be24 be32 texts_of encode entries_bytes parent_of parent_below written with_table used_of behind_table program_of program_in own_region total_size
+unfolding master put table_of nodes_in nodes_of nodes_from node_at name_at count be24 be32 texts_of encode entries_bytes parent_of parent_below written_image image_with_table used_of regions_behind_table program_of program_in own_region total_size
 resized-used = refl
 
 -- the paths `a/` and `..`
@@ -129,11 +129,11 @@ abbrev four : List ℕ
 four = 0 ∷ 0 ∷ 0 ∷ 0 ∷ []
 
 moves : on_master (move_file 1 0x600) ≡ Ok tt
-unfolding verdict_of counted_verdict totals_verdict plan_move max_size_from beside_free table_verdict place_verdict limits shallow shallow_from shut texts_of encode entries_bytes parent_of parent_below set_place
+unfolding verdict_of counted_verdict totals_verdict plan_move max_size_from size_beside_free table_verdict place_verdict limits is_shallow is_shallow_from dirs_open_at texts_of encode entries_bytes parent_of parent_below set_place
 moves = rw (opens, nodes, free, header.3, header.0, header.1, free, used, moved-used)
 
 moved-is : moved_to 0x600 ≡ moved_a 0x600
-unfolding image_after plan_move max_size_from beside_free set_place
+unfolding image_after plan_move max_size_from size_beside_free set_place
 moved-is = rw (moves, nodes, free)
 
 moved : free_regions_list (moved_to 0x600) master_words four ≡ 0x45A ∷ 0x1A6 ∷ 0x700 ∷ 0x1900 ∷ []
@@ -169,7 +169,7 @@ pub record Marked : Type 0 where
   pub P12 : (open_file_answer master master_words 1 ≡ Ok window_of_a) × (seek_of window_of_a (Current (negsuc 0)) ≡ Err InvalidSeek) × (number_of InvalidSeek ≡ 23)
 
 pub marked : Marked
-unfolding max_file_size_answer max_region_size_answer allocate_answer lookup_answer entry_answer open_file_answer max_size_from beside_free allocation_of powers largest better_of align_up verdict_of counted_verdict totals_verdict plan_move plan_resize table_verdict place_verdict limits shallow shallow_from shut texts_of encode entries_bytes parent_of parent_below lookup follow components child_of first_child same_bytes set_place components_of units
+unfolding max_file_size_answer max_region_size_answer allocate_answer lookup_answer entry_answer open_file_answer max_size_from size_beside_free allocation_of is_power_among largest_rest better_of align_up verdict_of counted_verdict totals_verdict plan_move plan_resize table_verdict place_verdict limits is_shallow is_shallow_from dirs_open_at texts_of encode entries_bytes parent_of parent_below lookup follow components child_of first_child are_same_bytes set_place components_of units
 marked = record {
   P1 = rw (opens, nodes, opens, free);
   P2 = rw (opens, free);
@@ -195,7 +195,7 @@ pub record Listed : Type 0 where
   pub list : free_regions_list master master_words four ≡ 1114 ∷ 166 ∷ 1536 ∷ 6656 ∷ []
 
 pub small-listing : Listed
-unfolding totals_answer entry_answer free_answer free_list rows_of put parent_of parent_below used_of behind_table program_in own_region total_size
+unfolding totals_answer entry_answer free_answer free_list rows_of put parent_of parent_below used_of regions_behind_table program_in own_region total_size
 small-listing = record {
   totals = rw (opens, nodes, no_program, header.0, header.1, header.2);
   root = rw (opens, nodes);

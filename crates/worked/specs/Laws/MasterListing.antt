@@ -4,11 +4,11 @@ use Rattle.std.specs.Prelude.{ℕ, ◌≡◌, refl, List, [], ◌∷◌, ◌++�
 use Rattle.std.proofs.Common.{◌∙◌}
 use Rattle.endian.specs.Bytes.{put}
 use Rattle.header.specs.Fields.{fields}
-use Rattle.header.specs.Verdicts.{field_verdict, fields_verdict, header_verdict}
+use Rattle.header.specs.Verdicts.{field_verdict, all_fields_verdict, header_verdict}
 use Rattle.tree.specs.Table.{Node, file, directory, parent_below, parent_of}
 use Rattle.space.specs.declared.region.DiscRegion.{DiscRegion}
 use Rattle.opened.specs.Opening.{opening}
-use Rattle.listing.specs.Lines.{totals_line, path_within, entry_line, entry_lines, region_lines}
+use Rattle.listing.specs.Lines.{totals_line, path_within, entry_line, lines_below, lines_of_regions}
 use Rattle.listing.specs.Decimal.{digits}
 use Rattle.listing.specs.Listing.{listing_text, listing_verdict, list_answer, report_verdict, report_text, report_answer}
 use Rattle.worked.specs.Image.{master, master_words}
@@ -44,12 +44,12 @@ tree = directory [] 2 ∷ file (0x61 ∷ []) 0x500 0x100 ∷ []
 abbrev regions : List DiscRegion
 regions = record { offset = 1114; size = 166 } ∷ record { offset = 1536; size = 6656 } ∷ []
 
-parts : listing_text master ≡ totals_line 8192 1370 ++ (entry_lines tree 2 ++ region_lines regions)
+parts : listing_text master ≡ totals_line 8192 1370 ++ (lines_below tree 2 ++ lines_of_regions regions)
 unfolding listing_text
 parts = rw (free, header.2, used, nodes)
 
-line-by-line : totals_line 8192 1370 ++ (entry_lines tree 2 ++ region_lines regions) ≡ listing
-unfolding digits path_within parent_of parent_below entry_line entry_lines region_lines
+line-by-line : totals_line 8192 1370 ++ (lines_below tree 2 ++ lines_of_regions regions) ≡ listing
+unfolding digits path_within parent_of parent_below entry_line lines_below lines_of_regions
 line-by-line = refl
 
 text : listing_text master ≡ listing
@@ -75,5 +75,5 @@ abbrev refused1 : List ℕ
 refused1 = 0x72 ∷ 0x65 ∷ 0x66 ∷ 0x75 ∷ 0x73 ∷ 0x65 ∷ 0x64 ∷ 0x20 ∷ 0x31 ∷ 0x0A ∷ []
 
 pub nothing-listed : (report_text [] master_words 70 ≡ refused1) × (report_answer [] master_words 70 ≡ 10)
-unfolding report_answer report_text report_verdict listing_verdict opening header_verdict fields_verdict field_verdict fields digits
+unfolding report_answer report_text report_verdict listing_verdict opening header_verdict all_fields_verdict field_verdict fields digits
 nothing-listed = (refl, refl)

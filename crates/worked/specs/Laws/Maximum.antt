@@ -3,24 +3,24 @@
 use Rattle.std.specs.Prelude.{Ok, Err}
 use Rattle.refusal.specs.Refusal.{Verdict}
 use Rattle.std.specs.Prelude.{ℕ, ◌-◌, ◌^◌, ◌≡◌, refl, List, [], ◌∷◌, replicate}
-use Rattle.endian.specs.Bytes.{be24, be32, be32_bytes, put, same_bytes}
+use Rattle.endian.specs.Bytes.{be24, be32, be32_bytes, put, are_same_bytes}
 use Rattle.refusal.specs.declared.Refusal.TheVariants.{LimitOrMemory, NotEnoughSpace, TableAboveMaximum}
 use Rattle.refusal.specs.Refusal.{number_of}
 use Rattle.header.specs.Fields.{fields, fst_max_size_field}
-use Rattle.header.specs.Verdicts.{field_verdict, fields_verdict, header_verdict, bounds_verdict, disc_end, fst_offset, fst_size, fst_max_size}
+use Rattle.header.specs.Verdicts.{field_verdict, all_fields_verdict, header_verdict, bounds_verdict, disc_end, fst_offset, fst_size, fst_max_size}
 use Rattle.tree.specs.Units.{units}
-use Rattle.tree.specs.Table.{file, directory, plain, safe, count, name_at, node_at, nodes_from, nodes_of, entry_verdict, entries_verdict, unended, shut, name_verdict, next_verdict, walk, check, parent_below, parent_of, entries_bytes, texts_of, encode, shallow_from, shallow, limits}
+use Rattle.tree.specs.Table.{file, directory, is_plain, is_safe, count, name_at, node_at, nodes_from, nodes_of, entry_verdict, entries_verdict, is_unended, dirs_open_at, name_verdict, next_verdict, walk, check, parent_below, parent_of, entries_bytes, texts_of, encode, is_shallow_from, is_shallow, limits}
 use Rattle.tree.specs.Lookup.{first_child, child_of}
-use Rattle.tree.specs.Insert.{bump, splice, insert_at, set_place}
-use Rattle.space.specs.Used.{uses_byte, nonempty, total_size}
-use Rattle.space.specs.Layout.{disjoint, disjoint_from_all, pairwise_disjoint, end_by, disjoint_below}
+use Rattle.tree.specs.Insert.{raised_next, splice, insert_at, set_place}
+use Rattle.space.specs.Used.{is_used, nonempty_regions, total_size}
+use Rattle.space.specs.Layout.{are_disjoint, is_disjoint_from_all, are_pairwise_disjoint, are_below, are_disjoint_below}
 use Rattle.space.specs.Free.{runs, free_regions}
-use Rattle.space.specs.MaxRegionSize.{beside_free, max_size_from}
+use Rattle.space.specs.MaxRegionSize.{size_beside_free, max_size_from}
 use Rattle.space.specs.Totals.{totals_verdict}
 use Rattle.executable.specs.Program.{program_of, program_in, own_region}
-use Rattle.opened.specs.Opening.{table_of, nodes_in, opening, behind_table, used_in, free_space_of, used_of, layout_verdict, disc_of}
-use Rattle.edits.specs.Change.{Change, nothing, change, filled, with_table, written, table_verdict, place_verdict}
-use Rattle.edits.specs.Edits.{Edit, insert_file, move_file, resize_file, fill_file, rewrite, table_only, insert_verdict, plan_of, plan_move, plan_resize, plan_fill, counted_verdict, verdict_of}
+use Rattle.opened.specs.Opening.{table_of, nodes_in, opening, regions_behind_table, used_in, free_space_of, used_of, layout_verdict, disc_of}
+use Rattle.edit_rules.specs.Change.{Change, nothing, change, filled, image_with_table, written_image, table_verdict, place_verdict}
+use Rattle.edit_rules.specs.Edits.{Edit, insert_file, move_file, resize_file, fill_file, rewrite, table_change, insert_verdict, plan_of, plan_move, plan_resize, plan_fill, counted_verdict, verdict_of}
 use Rattle.worked.specs.Image.{master, master_words}
 use Rattle.worked.specs.Laws.Marked.{at, fresh}
 
@@ -30,7 +30,7 @@ stating m = put master fst_max_size_field.at (be32_bytes m)
 
 -- whatever it is, the image opens to the same tree with the same free regions
 opens : (m : ℕ) → opening (stating m) master_words ≡ Ok tt
-unfolding stating master put opening layout_verdict header_verdict fields_verdict field_verdict fields bounds_verdict table_of check nodes_in nodes_of nodes_from node_at name_at count entries_verdict entry_verdict unended walk name_verdict next_verdict shut plain safe be24 be32 used_in behind_table program_of program_in own_region nonempty disjoint_below pairwise_disjoint disjoint_from_all disjoint end_by units
+unfolding stating master put opening layout_verdict header_verdict all_fields_verdict field_verdict fields bounds_verdict table_of check nodes_in nodes_of nodes_from node_at name_at count entries_verdict entry_verdict is_unended walk name_verdict next_verdict dirs_open_at is_plain is_safe be24 be32 used_in regions_behind_table program_of program_in own_region nonempty_regions are_disjoint_below are_pairwise_disjoint is_disjoint_from_all are_disjoint are_below units
 opens m = refl
 
 nodes : (m : ℕ) → nodes_in (stating m) ≡ directory [] 2 ∷ file (0x61 ∷ []) 0x500 0x100 ∷ []
@@ -42,18 +42,18 @@ unfolding stating master put be32
 table m = (refl, refl, refl)
 
 regions : (m : ℕ) → used_in (stating m) ≡ at 0 0x45A ∷ at 0x500 0x100 ∷ []
-unfolding stating master put table_of nodes_in nodes_of nodes_from node_at name_at count be24 be32 used_in behind_table program_of program_in own_region nonempty
+unfolding stating master put table_of nodes_in nodes_of nodes_from node_at name_at count be24 be32 used_in regions_behind_table program_of program_in own_region nonempty_regions
 regions m = refl
 
 runs-between : free_regions 0x2000 (at 0 0x45A ∷ at 0x500 0x100 ∷ []) ≡ at 1114 166 ∷ at 1536 6656 ∷ []
-unfolding free_regions runs uses_byte
+unfolding free_regions runs is_used
 runs-between = refl
 
 free : (m : ℕ) → free_space_of (stating m) ≡ at 1114 166 ∷ at 1536 6656 ∷ []
 free m = rw (regions m, (table m).2) runs-between
 
 used : (m : ℕ) → used_of (stating m) ≡ 1370
-unfolding stating master put table_of nodes_in nodes_of nodes_from node_at name_at count be24 be32 used_of behind_table program_of program_in own_region total_size
+unfolding stating master put table_of nodes_in nodes_of nodes_from node_at name_at count be24 be32 used_of regions_behind_table program_of program_in own_region total_size
 used m = refl
 
 stated : (fst_max_size (stating 0x1A) ≡ 0x1A) × (fst_max_size (stating 0x19) ≡ 0x19) × (fst_max_size (stating 0) ≡ 0) × (fst_max_size (stating 0x28) ≡ 0x28) × (fst_max_size (stating 0x27) ≡ 0x27)
@@ -65,7 +65,7 @@ unfoldable pub tight : ℕ → List ℕ
 tight m = put (stating m) 0x450 (be32_bytes 0x45A)
 
 tight-opens : (m : ℕ) → opening (tight m) master_words ≡ Ok tt
-unfolding tight stating master put opening layout_verdict header_verdict fields_verdict field_verdict fields bounds_verdict table_of check nodes_in nodes_of nodes_from node_at name_at count entries_verdict entry_verdict unended walk name_verdict next_verdict shut plain safe be24 be32 used_in behind_table program_of program_in own_region nonempty disjoint_below pairwise_disjoint disjoint_from_all disjoint end_by units
+unfolding tight stating master put opening layout_verdict header_verdict all_fields_verdict field_verdict fields bounds_verdict table_of check nodes_in nodes_of nodes_from node_at name_at count entries_verdict entry_verdict is_unended walk name_verdict next_verdict dirs_open_at is_plain is_safe be24 be32 used_in regions_behind_table program_of program_in own_region nonempty_regions are_disjoint_below are_pairwise_disjoint is_disjoint_from_all are_disjoint are_below units
 tight-opens m = refl
 
 tight-nodes : (m : ℕ) → nodes_in (tight m) ≡ directory [] 2 ∷ file (0x61 ∷ []) 0x45A 0x100 ∷ []
@@ -77,7 +77,7 @@ unfolding tight stating master put be32
 tight-header = (refl, refl, refl, refl)
 
 tight-free : free_space_of (tight 0) ≡ at 1370 6822 ∷ []
-unfolding tight stating master put table_of nodes_in nodes_of nodes_from node_at name_at count be24 be32 used_in behind_table program_of program_in own_region free_regions runs uses_byte nonempty
+unfolding tight stating master put table_of nodes_in nodes_of nodes_from node_at name_at count be24 be32 used_in regions_behind_table program_of program_in own_region free_regions runs is_used nonempty_regions
 tight-free = refl
 
 -- the same, with a zero byte more behind the texts: 0x1B bytes, written anew 0x1A
@@ -85,11 +85,11 @@ unfoldable pub slack : ℕ → List ℕ
 slack m = put (stating m) 0x428 (be32_bytes 0x1B)
 
 pub slack-opens : opening (slack 0x1A) master_words ≡ Ok tt
-unfolding slack stating master put opening layout_verdict header_verdict fields_verdict field_verdict fields bounds_verdict table_of check nodes_in nodes_of nodes_from node_at name_at count entries_verdict entry_verdict unended walk name_verdict next_verdict shut plain safe be24 be32 used_in behind_table program_of program_in own_region nonempty disjoint_below pairwise_disjoint disjoint_from_all disjoint end_by units
+unfolding slack stating master put opening layout_verdict header_verdict all_fields_verdict field_verdict fields bounds_verdict table_of check nodes_in nodes_of nodes_from node_at name_at count entries_verdict entry_verdict is_unended walk name_verdict next_verdict dirs_open_at is_plain is_safe be24 be32 used_in regions_behind_table program_of program_in own_region nonempty_regions are_disjoint_below are_pairwise_disjoint is_disjoint_from_all are_disjoint are_below units
 slack-opens = refl
 
 few-opens : opening (stating 0x1A) 19 ≡ Ok tt
-unfolding stating master put opening layout_verdict header_verdict fields_verdict field_verdict fields bounds_verdict table_of check nodes_in nodes_of nodes_from node_at name_at count entries_verdict entry_verdict unended walk name_verdict next_verdict shut plain safe be24 be32 used_in behind_table program_of program_in own_region nonempty disjoint_below pairwise_disjoint disjoint_from_all disjoint end_by units
+unfolding stating master put opening layout_verdict header_verdict all_fields_verdict field_verdict fields bounds_verdict table_of check nodes_in nodes_of nodes_from node_at name_at count entries_verdict entry_verdict is_unended walk name_verdict next_verdict dirs_open_at is_plain is_safe be24 be32 used_in regions_behind_table program_of program_in own_region nonempty_regions are_disjoint_below are_pairwise_disjoint is_disjoint_from_all are_disjoint are_below units
 few-opens = refl
 
 slack-nodes : nodes_in (slack 0x1A) ≡ directory [] 2 ∷ file (0x61 ∷ []) 0x500 0x100 ∷ []
@@ -101,42 +101,42 @@ unfolding slack stating master put be32
 slack-header = (refl, refl, refl)
 
 slack-free : free_space_of (slack 0x1A) ≡ at 1115 165 ∷ at 1536 6656 ∷ []
-unfolding slack stating master put table_of nodes_in nodes_of nodes_from node_at name_at count be24 be32 used_in behind_table program_of program_in own_region free_regions runs uses_byte nonempty
+unfolding slack stating master put table_of nodes_in nodes_of nodes_from node_at name_at count be24 be32 used_in regions_behind_table program_of program_in own_region free_regions runs is_used nonempty_regions
 slack-free = refl
 
 slack-used : used_of (slack 0x1A) ≡ 1371
-unfolding slack stating master put table_of nodes_in nodes_of nodes_from node_at name_at count be24 be32 used_of behind_table program_of program_in own_region total_size
+unfolding slack stating master put table_of nodes_in nodes_of nodes_from node_at name_at count be24 be32 used_of regions_behind_table program_of program_in own_region total_size
 slack-used = refl
 
-slack-rewritten : used_of (written (table_only (directory [] 2 ∷ file (0x61 ∷ []) 0x500 0x100 ∷ [])) (slack 0x1A)) ≡ 1370
-unfolding slack stating master put table_of nodes_in nodes_of nodes_from node_at name_at count be24 be32 texts_of encode entries_bytes parent_of parent_below written with_table used_of behind_table program_of program_in own_region total_size
+slack-rewritten : used_of (written_image (table_change (directory [] 2 ∷ file (0x61 ∷ []) 0x500 0x100 ∷ [])) (slack 0x1A)) ≡ 1370
+unfolding slack stating master put table_of nodes_in nodes_of nodes_from node_at name_at count be24 be32 texts_of encode entries_bytes parent_of parent_below written_image image_with_table used_of regions_behind_table program_of program_in own_region total_size
 slack-rewritten = refl
 
 -- ---- the images that are written
 
-rewritten : (m : ℕ) → used_of (written (table_only (directory [] 2 ∷ file (0x61 ∷ []) 0x500 0x100 ∷ [])) (stating m)) ≡ 1370
-unfolding stating master put table_of nodes_in nodes_of nodes_from node_at name_at count be24 be32 texts_of encode entries_bytes parent_of parent_below written with_table used_of behind_table program_of program_in own_region total_size
+rewritten : (m : ℕ) → used_of (written_image (table_change (directory [] 2 ∷ file (0x61 ∷ []) 0x500 0x100 ∷ [])) (stating m)) ≡ 1370
+unfolding stating master put table_of nodes_in nodes_of nodes_from node_at name_at count be24 be32 texts_of encode entries_bytes parent_of parent_below written_image image_with_table used_of regions_behind_table program_of program_in own_region total_size
 rewritten m = refl
 
 abbrev insert_b : Edit
 insert_b = insert_file 0 (0x62 ∷ [])
 
 abbrev with_b : Change
-with_b = table_only (directory [] 3 ∷ file (0x61 ∷ []) 0x500 0x100 ∷ file (0x62 ∷ []) 0 0 ∷ [])
+with_b = table_change (directory [] 3 ∷ file (0x61 ∷ []) 0x500 0x100 ∷ file (0x62 ∷ []) 0 0 ∷ [])
 
 abbrev tight_with_b : Change
-tight_with_b = table_only (directory [] 3 ∷ file (0x61 ∷ []) 0x45A 0x100 ∷ file (0x62 ∷ []) 0 0 ∷ [])
+tight_with_b = table_change (directory [] 3 ∷ file (0x61 ∷ []) 0x45A 0x100 ∷ file (0x62 ∷ []) 0 0 ∷ [])
 
 plan-b : (m : ℕ) → plan_of insert_b (disc_of (stating m)) ≡ change 2 with_b
-unfolding insert_verdict insert_at splice bump child_of first_child same_bytes plain safe parent_of parent_below shut units
+unfolding insert_verdict insert_at splice raised_next child_of first_child are_same_bytes is_plain is_safe parent_of parent_below dirs_open_at units
 plan-b m = rw (nodes m)
 
 tight-plan : (m : ℕ) → plan_of insert_b (disc_of (tight m)) ≡ change 2 tight_with_b
-unfolding insert_verdict insert_at splice bump child_of first_child same_bytes plain safe parent_of parent_below shut units
+unfolding insert_verdict insert_at splice raised_next child_of first_child are_same_bytes is_plain is_safe parent_of parent_below dirs_open_at units
 tight-plan m = rw (tight-nodes m)
 
-inserted : (m : ℕ) → used_of (written with_b (stating m)) ≡ 1384
-unfolding stating master put table_of nodes_in nodes_of nodes_from node_at name_at count be24 be32 texts_of encode entries_bytes parent_of parent_below written with_table used_of behind_table program_of program_in own_region total_size
+inserted : (m : ℕ) → used_of (written_image with_b (stating m)) ≡ 1384
+unfolding stating master put table_of nodes_in nodes_of nodes_from node_at name_at count be24 be32 texts_of encode entries_bytes parent_of parent_below written_image image_with_table used_of regions_behind_table program_of program_in own_region total_size
 inserted m = refl
 
 -- `a` filled with as many bytes as it has
@@ -148,7 +148,7 @@ unfolding plan_fill plan_resize
 plan-clip = rw (nodes 0x19)
 
 clipped : used_of (put (stating 0x19) 0x500 clip) ≡ 1370
-unfolding stating master put table_of nodes_in nodes_of nodes_from node_at name_at count be24 be32 used_of behind_table program_of program_in own_region total_size
+unfolding stating master put table_of nodes_in nodes_of nodes_from node_at name_at count be24 be32 used_of regions_behind_table program_of program_in own_region total_size
 clipped = refl
 
 -- ---- the examples
@@ -180,7 +180,7 @@ pub record Maximum : Type 0 where
   pub number : number_of TableAboveMaximum ≡ 26
 
 pub maximum : Maximum
-unfolding verdict_of counted_verdict totals_verdict plan_move plan_resize max_size_from beside_free table_verdict place_verdict limits shallow shallow_from shut texts_of encode entries_bytes parent_of parent_below set_place
+unfolding verdict_of counted_verdict totals_verdict plan_move plan_resize max_size_from size_beside_free table_verdict place_verdict limits is_shallow is_shallow_from dirs_open_at texts_of encode entries_bytes parent_of parent_below set_place
 maximum = record {
   exact = (rw (opens 0x1A, nodes 0x1A, free 0x1A, stated.0, (table 0x1A).0, (table 0x1A).1, used 0x1A, rewritten 0x1A), rw (opens 0x1A, plan-b 0x1A, stated.0));
   larger = (

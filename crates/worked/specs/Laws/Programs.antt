@@ -3,28 +3,28 @@
 use Rattle.std.specs.Prelude.{Some, Ok, Err}
 use Rattle.refusal.specs.Refusal.{Verdict}
 use Rattle.std.specs.Prelude.{ℕ, ◌+◌, ◌≡◌, refl, List, [], ◌∷◌, ◌++◌, replicate}
-use Rattle.endian.specs.Bytes.{be24, be32, be32_bytes, put, same_bytes}
+use Rattle.endian.specs.Bytes.{be24, be32, be32_bytes, put, are_same_bytes}
 use Rattle.refusal.specs.declared.Refusal.TheVariants.{UnsafeName, OverlappingRegions, NotEnoughSpace, InvalidDol}
 use Rattle.refusal.specs.Refusal.{number_of}
 use Rattle.header.specs.Fields.{fields, gcn_magic_field, dol_offset_field, fst_offset_field, fst_size_field, user_size_field}
-use Rattle.header.specs.Verdicts.{gcn_magic, field_verdict, fields_verdict, header_verdict, bounds_verdict, fst_offset, fst_size, fst_max_size, disc_end}
+use Rattle.header.specs.Verdicts.{gcn_magic, field_verdict, all_fields_verdict, header_verdict, bounds_verdict, fst_offset, fst_size, fst_max_size, disc_end}
 use Rattle.tree.specs.Units.{units}
-use Rattle.tree.specs.Table.{file, directory, plain, safe, count, name_at, node_at, nodes_from, nodes_of, entry_verdict, entries_verdict, unended, shut, name_verdict, next_verdict, walk, check, parent_below, parent_of, entries_bytes, texts_of, encode, shallow_from, shallow, limits}
+use Rattle.tree.specs.Table.{file, directory, is_plain, is_safe, count, name_at, node_at, nodes_from, nodes_of, entry_verdict, entries_verdict, is_unended, dirs_open_at, name_verdict, next_verdict, walk, check, parent_below, parent_of, entries_bytes, texts_of, encode, is_shallow_from, is_shallow, limits}
 use Rattle.tree.specs.Lookup.{first_child, child_of}
 use Rattle.tree.specs.Insert.{splice, insert_at, set_place}
 use Rattle.space.specs.declared.region.DiscRegion.{DiscRegion}
-use Rattle.space.specs.Used.{uses_byte, nonempty, total_size}
-use Rattle.space.specs.Layout.{disjoint, disjoint_from_all, pairwise_disjoint, end_by, disjoint_below}
+use Rattle.space.specs.Used.{is_used, nonempty_regions, total_size}
+use Rattle.space.specs.Layout.{are_disjoint, is_disjoint_from_all, are_pairwise_disjoint, are_below, are_disjoint_below}
 use Rattle.space.specs.Free.{runs, free_regions}
 use Rattle.space.specs.Align.{align_up}
-use Rattle.space.specs.MaxRegionSize.{beside_free, max_size_from}
-use Rattle.space.specs.Allocate.{better_of, largest, powers, allocation_of}
+use Rattle.space.specs.MaxRegionSize.{size_beside_free, max_size_from}
+use Rattle.space.specs.Allocate.{better_of, largest_rest, is_power_among, allocation_of}
 use Rattle.space.specs.Totals.{totals_verdict}
 use Rattle.executable.specs.Dol.{words_at, largest_of}
 use Rattle.executable.specs.Program.{program_of, program_in, own_region}
-use Rattle.opened.specs.Opening.{table_of, nodes_in, behind_table, used_in, layout_verdict, opening, free_space_of, used_of}
-use Rattle.edits.specs.Change.{with_table, written, table_verdict, place_verdict}
-use Rattle.edits.specs.Edits.{table_only, insert_file, move_file, resize_file, rewrite, insert_verdict, plan_move, plan_resize, counted_verdict, verdict_of}
+use Rattle.opened.specs.Opening.{table_of, nodes_in, regions_behind_table, used_in, layout_verdict, opening, free_space_of, used_of}
+use Rattle.edit_rules.specs.Change.{image_with_table, written_image, table_verdict, place_verdict}
+use Rattle.edit_rules.specs.Edits.{table_change, insert_file, move_file, resize_file, rewrite, insert_verdict, plan_move, plan_resize, counted_verdict, verdict_of}
 use Rattle.disc.specs.Calls.{totals_of}
 
 -- a disc that ends at 0x900, in an image of so many bytes: the table at `fst`, file `a` of 0x100 bytes at `place`, with this name's byte
@@ -64,7 +64,7 @@ pub record Opens : Type 0 where
   pub numbers : (number_of InvalidDol ≡ 24) × (number_of UnsafeName ≡ 13) × (number_of OverlappingRegions ≡ 14)
 
 pub opened : Opens
-unfolding one put opening layout_verdict header_verdict fields_verdict field_verdict fields bounds_verdict table_of check nodes_in nodes_of nodes_from node_at name_at count entries_verdict entry_verdict unended walk name_verdict next_verdict shut plain safe be24 be32 used_in behind_table program_of program_in own_region words_at largest_of nonempty disjoint_below pairwise_disjoint disjoint_from_all disjoint end_by units
+unfolding one put opening layout_verdict header_verdict all_fields_verdict field_verdict fields bounds_verdict table_of check nodes_in nodes_of nodes_from node_at name_at count entries_verdict entry_verdict is_unended walk name_verdict next_verdict dirs_open_at is_plain is_safe be24 be32 used_in regions_behind_table program_of program_in own_region words_at largest_of nonempty_regions are_disjoint_below are_pairwise_disjoint is_disjoint_from_all are_disjoint are_below units
 opened = record { at-file = (refl, refl); sum = refl; walk = refl; past_end = refl; numbers = (refl, refl, refl) }
 
 -- what is free, and the used total
@@ -77,11 +77,11 @@ unfolding one put be32
 header = (refl, refl, refl)
 
 pub used : (used_in one ≡ at 0 0x45A ∷ at 0x600 0x123 ∷ at 0x500 0x100 ∷ []) × (used_of one ≡ 0x45A + 0x100 + 0x123)
-unfolding used_in used_of behind_table program_in own_region nonempty total_size
+unfolding used_in used_of regions_behind_table program_in own_region nonempty_regions total_size
 used = (rw (nodes, opened.at-file.1, header.0, header.1), rw (nodes, opened.at-file.1, header.0, header.1))
 
 runs-of-one : free_regions 0x900 (at 0 0x45A ∷ at 0x600 0x123 ∷ at 0x500 0x100 ∷ []) ≡ at 0x45A 0xA6 ∷ at 0x723 0x1DD ∷ []
-unfolding free_regions runs uses_byte
+unfolding free_regions runs is_used
 runs-of-one = refl
 
 pub free : free_space_of one ≡ at 0x45A 0xA6 ∷ at 0x723 0x1DD ∷ []
@@ -94,7 +94,7 @@ unfoldable pub two : List ℕ
 two = with 0x45A 0 0 (disc 0x900 0x440 0x600 0x61)
 
 two-opens : (opening two 20 ≡ Ok tt) × (program_of two ≡ Ok (Some (at 0x45A 0xE4)))
-unfolding two put opening layout_verdict header_verdict fields_verdict field_verdict fields bounds_verdict table_of check nodes_in nodes_of nodes_from node_at name_at count entries_verdict entry_verdict unended walk name_verdict next_verdict shut plain safe be24 be32 used_in behind_table program_of program_in own_region words_at largest_of nonempty disjoint_below pairwise_disjoint disjoint_from_all disjoint end_by units
+unfolding two put opening layout_verdict header_verdict all_fields_verdict field_verdict fields bounds_verdict table_of check nodes_in nodes_of nodes_from node_at name_at count entries_verdict entry_verdict is_unended walk name_verdict next_verdict dirs_open_at is_plain is_safe be24 be32 used_in regions_behind_table program_of program_in own_region words_at largest_of nonempty_regions are_disjoint_below are_pairwise_disjoint is_disjoint_from_all are_disjoint are_below units
 two-opens = (refl, refl)
 
 two-nodes : nodes_in two ≡ directory [] 2 ∷ file (0x61 ∷ []) 0x600 0x100 ∷ []
@@ -106,20 +106,20 @@ unfolding two put be32
 two-header = (refl, refl, refl, refl)
 
 two-used : (used_in two ≡ at 0 0x45A ∷ at 0x45A 0xE4 ∷ at 0x600 0x100 ∷ []) × (used_of two ≡ 0x45A + 0xE4 + 0x100)
-unfolding used_in used_of behind_table program_in own_region nonempty total_size
+unfolding used_in used_of regions_behind_table program_in own_region nonempty_regions total_size
 two-used = (rw (two-nodes, two-opens.1, two-header.0, two-header.1), rw (two-nodes, two-opens.1, two-header.0, two-header.1))
 
 runs-of-two : free_regions 0x900 (at 0 0x45A ∷ at 0x45A 0xE4 ∷ at 0x600 0x100 ∷ []) ≡ at 0x53E 0xC2 ∷ at 0x700 0x200 ∷ []
-unfolding free_regions runs uses_byte
+unfolding free_regions runs is_used
 runs-of-two = refl
 
 two-free : free_space_of two ≡ at 0x53E 0xC2 ∷ at 0x700 0x200 ∷ []
 two-free = rw (two-used.0, two-header.2) runs-of-two
 
 -- the table written as it is
-two-written : used_of (written (table_only (directory [] 2 ∷ file (0x61 ∷ []) 0x600 0x100 ∷ [])) two) ≡ 0x45A + 0xE4 + 0x100
-unfolding two put table_of nodes_in nodes_of nodes_from node_at name_at count be24 be32 texts_of encode entries_bytes parent_of parent_below written with_table used_of behind_table program_of program_in own_region words_at largest_of total_size
-two-written = refl
+two-written_image : used_of (written_image (table_change (directory [] 2 ∷ file (0x61 ∷ []) 0x600 0x100 ∷ [])) two) ≡ 0x45A + 0xE4 + 0x100
+unfolding two put table_of nodes_in nodes_of nodes_from node_at name_at count be24 be32 texts_of encode entries_bytes parent_of parent_below written_image image_with_table used_of regions_behind_table program_of program_in own_region words_at largest_of total_size
+two-written_image = refl
 
 pub record Kept : Type 0 where
   -- `a` to where the program lies; grown into it, with no multiple of 0x8000 below the disc end
@@ -131,11 +131,11 @@ pub record Kept : Type 0 where
   pub twenty-one : number_of NotEnoughSpace ≡ 21
 
 pub kept : Kept
-unfolding verdict_of counted_verdict totals_verdict plan_move plan_resize insert_verdict insert_at splice child_of first_child same_bytes plain safe max_size_from beside_free allocation_of powers largest better_of align_up table_verdict place_verdict limits shallow shallow_from shut texts_of encode entries_bytes parent_of parent_below set_place units
+unfolding verdict_of counted_verdict totals_verdict plan_move plan_resize insert_verdict insert_at splice child_of first_child are_same_bytes is_plain is_safe max_size_from size_beside_free allocation_of is_power_among largest_rest better_of align_up table_verdict place_verdict limits is_shallow is_shallow_from dirs_open_at texts_of encode entries_bytes parent_of parent_below set_place units
 kept = record {
   move-onto = rw (opened.at-file.0, nodes, free);
   grow-onto = rw (opened.at-file.0, nodes, free);
-  same-table = rw (two-opens.0, two-nodes, two-free, two-header.3, two-header.0, two-header.1, two-used.1, two-written);
+  same-table = rw (two-opens.0, two-nodes, two-free, two-header.3, two-header.0, two-header.1, two-used.1, two-written_image);
   grown-table = rw (two-opens.0, two-nodes, two-free, two-header.3, two-header.0, two-header.1);
   twenty-one = refl;
 }

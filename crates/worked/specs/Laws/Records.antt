@@ -6,32 +6,32 @@ use Rattle.std.specs.Prelude.{ℕ, ◌-◌, ◌^◌, ◌≡◌, refl, List, [], 
 use Rattle.endian.specs.Bytes.{be24, be32, put}
 use Rattle.refusal.specs.declared.Refusal.TheVariants.{OverlappingMove, NotEnoughSpace, TotalsOutOfRange}
 use Rattle.refusal.specs.Refusal.{number_of}
-use Rattle.tree.specs.Table.{file, directory, count, name_at, node_at, nodes_from, nodes_of, shut, parent_below, parent_of, entries_bytes, texts_of, encode, shallow_from, shallow, limits}
+use Rattle.tree.specs.Table.{file, directory, count, name_at, node_at, nodes_from, nodes_of, dirs_open_at, parent_below, parent_of, entries_bytes, texts_of, encode, is_shallow_from, is_shallow, limits}
 use Rattle.tree.specs.Insert.{set_place}
-use Rattle.space.specs.Used.{uses_byte, nonempty, total_size}
+use Rattle.space.specs.Used.{is_used, nonempty_regions, total_size}
 use Rattle.space.specs.Free.{runs, free_regions, largest_size}
-use Rattle.space.specs.MaxRegionSize.{beside_free, max_size_from}
+use Rattle.space.specs.MaxRegionSize.{size_beside_free, max_size_from}
 use Rattle.space.specs.declared.totals.Totals.{Totals}
-use Rattle.space.specs.Totals.{totals_verdict, totals_moved}
+use Rattle.space.specs.Totals.{totals_verdict, moved_totals}
 use Rattle.executable.specs.Program.{program_of, program_in, own_region}
-use Rattle.opened.specs.Opening.{table_of, nodes_in, behind_table, used_in, free_space_of, used_of}
+use Rattle.opened.specs.Opening.{table_of, nodes_in, regions_behind_table, used_in, free_space_of, used_of}
 use Rattle.disc.specs.Calls.{record_answer}
-use Rattle.edits.specs.Change.{with_table, written, table_verdict, place_verdict}
-use Rattle.edits.specs.Edits.{Edit, move_file, resize_file, rewrite, table_only, plan_move, plan_resize, counted_verdict, verdict_of, image_after, totals_after}
+use Rattle.edit_rules.specs.Change.{image_with_table, written_image, table_verdict, place_verdict}
+use Rattle.edit_rules.specs.Edits.{Edit, move_file, resize_file, rewrite, table_change, plan_move, plan_resize, counted_verdict, verdict_of, image_after, totals_after}
 use Rattle.worked.specs.Image.{master, master_words, master_bytes}
 use Rattle.worked.specs.Laws.Marked.{at, opens, nodes, header, free, used, fresh, resized_a, moved-used, moved-free}
 
 -- ---- the images that are written
 
 abbrev rewritten_master : List ℕ
-rewritten_master = written (table_only (directory [] 2 ∷ file (0x61 ∷ []) 0x500 0x100 ∷ [])) master
+rewritten_master = written_image (table_change (directory [] 2 ∷ file (0x61 ∷ []) 0x500 0x100 ∷ [])) master
 
 useds : (used_of rewritten_master ≡ 1370) × (used_of (resized_a 756) ≡ 1870) × (used_of (resized_a 0xFF) ≡ 1369) × (used_of (resized_a 0x101) ≡ 1371)
-unfolding master put table_of nodes_in nodes_of nodes_from node_at name_at count be24 be32 texts_of encode entries_bytes parent_of parent_below written with_table used_of behind_table program_of program_in own_region total_size
+unfolding master put table_of nodes_in nodes_of nodes_from node_at name_at count be24 be32 texts_of encode entries_bytes parent_of parent_below written_image image_with_table used_of regions_behind_table program_of program_in own_region total_size
 useds = (refl, refl, refl, refl)
 
 frees : (free_space_of rewritten_master ≡ at 1114 166 ∷ at 1536 6656 ∷ []) × (free_space_of (resized_a 756) ≡ at 1114 166 ∷ at 2036 6156 ∷ [])
-unfolding master put table_of nodes_in nodes_of nodes_from node_at name_at count be24 be32 texts_of encode entries_bytes parent_of parent_below written with_table used_in behind_table program_of program_in own_region free_regions runs uses_byte nonempty
+unfolding master put table_of nodes_in nodes_of nodes_from node_at name_at count be24 be32 texts_of encode entries_bytes parent_of parent_below written_image image_with_table used_in regions_behind_table program_of program_in own_region free_regions runs is_used nonempty_regions
 frees = (refl, refl)
 
 -- ---- what an edit of the small master with a record answers, and what image and record it leaves
@@ -60,7 +60,7 @@ module _ (t : Totals) where
     pub moved : answer (move_file 1 0x600) t ≡ totals_verdict t 1370 1370
 
   counted : Counted
-  unfolding verdict_of counted_verdict plan_move plan_resize max_size_from beside_free table_verdict place_verdict limits shallow shallow_from shut texts_of encode entries_bytes parent_of parent_below set_place
+  unfolding verdict_of counted_verdict plan_move plan_resize max_size_from size_beside_free table_verdict place_verdict limits is_shallow is_shallow_from dirs_open_at texts_of encode entries_bytes parent_of parent_below set_place
   counted = record {
     rewritten = rw (opens, nodes, free, header.3, header.0, header.1, used, useds.0);
     same_size = rw (opens, nodes, used);
@@ -71,20 +71,20 @@ module _ (t : Totals) where
   }
 
   -- accepted: the new record
-  after-rewrite : totals_verdict t 1370 1370 ≡ Ok tt → after rewrite t ≡ totals_moved t 1370 1370 6656
+  after-rewrite : totals_verdict t 1370 1370 ≡ Ok tt → after rewrite t ≡ moved_totals t 1370 1370 6656
   unfolding totals_after largest_size
   after-rewrite e = rw (counted.rewritten, e, nodes, used, useds.0, frees.0)
 
-  after_same : totals_verdict t 1370 1370 ≡ Ok tt → after (resize_file 1 0x100) t ≡ totals_moved t 1370 1370 6656
+  after_same : totals_verdict t 1370 1370 ≡ Ok tt → after (resize_file 1 0x100) t ≡ moved_totals t 1370 1370 6656
   unfolding totals_after plan_resize largest_size
   after_same e = rw (counted.same_size, e, nodes, used, free)
 
-  after-resize : totals_verdict t 1370 1870 ≡ Ok tt → after (resize_file 1 756) t ≡ totals_moved t 1370 1870 6156
-  unfolding totals_after plan_resize max_size_from beside_free set_place largest_size
+  after-resize : totals_verdict t 1370 1870 ≡ Ok tt → after (resize_file 1 756) t ≡ moved_totals t 1370 1870 6156
+  unfolding totals_after plan_resize max_size_from size_beside_free set_place largest_size
   after-resize e = rw (counted.resized, e, nodes, free, used, useds.1, frees.1)
 
-  after-move : totals_verdict t 1370 1370 ≡ Ok tt → after (move_file 1 0x600) t ≡ totals_moved t 1370 1370 6400
-  unfolding totals_after plan_move max_size_from beside_free set_place largest_size
+  after-move : totals_verdict t 1370 1370 ≡ Ok tt → after (move_file 1 0x600) t ≡ moved_totals t 1370 1370 6400
+  unfolding totals_after plan_move max_size_from size_beside_free set_place largest_size
   after-move e = rw (counted.moved, e, nodes, free, used, moved-used, moved-free)
 
 -- ---- the examples
@@ -124,7 +124,7 @@ pub record Records : Type 0 where
   pub numbers : (number_of TotalsOutOfRange ≡ 25) × (number_of NotEnoughSpace ≡ 21) × (number_of OverlappingMove ≡ 20)
 
 not_free : answer (move_file 1 0x400) counted-out ≡ Err NotEnoughSpace
-unfolding verdict_of counted_verdict plan_move max_size_from beside_free
+unfolding verdict_of counted_verdict plan_move max_size_from size_beside_free
 not_free = rw (opens, nodes, free)
 
 onto-itself : answer (move_file 1 0x580) counted-out ≡ Err OverlappingMove
@@ -132,7 +132,7 @@ unfolding verdict_of counted_verdict plan_move
 onto-itself = rw (opens, nodes)
 
 pub records : Records
-unfolding record_answer largest_size totals_verdict totals_moved image_after totals_after plan_resize
+unfolding record_answer largest_size totals_verdict moved_totals image_after totals_after plan_resize
 records = record {
   made = rw (opens, free, used);
   grown = ((counted fresh).resized, after-resize fresh refl);

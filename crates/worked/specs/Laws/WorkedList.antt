@@ -2,13 +2,13 @@
 use Rattle.std.specs.Prelude.{◌≡◌, refl, true, false, List, [], ◌∷◌, ◌++◌, replicate, Ok}
 use Rattle.endian.specs.Bytes.{put, span}
 use Rattle.tree.specs.Table.{file, directory}
-use Rattle.tree.specs.Insert.{bump, splice, insert_at, set_place}
+use Rattle.tree.specs.Insert.{raised_next, splice, insert_at, set_place}
 use Rattle.space.specs.Free.{largest_size}
 use Rattle.space.specs.declared.totals.Totals.{Totals}
 use Rattle.disc.specs.Calls.{record_answer}
-use Rattle.edits.specs.Edits.{Edit, insert_file, move_file, resize_file, fill_file, rewrite}
+use Rattle.edit_rules.specs.Edits.{Edit, insert_file, move_file, resize_file, fill_file, rewrite}
 use Rattle.ledger.specs.Ledger.{files_before, put_in, first_histories, Ledger, first_ledger, Report, ledger_after}
-use Rattle.ledger.specs.Runs.{Call, image_after_all, reports_of, totals_after_all, HandedOn}
+use Rattle.ledger.specs.Runs.{Call, image_after_all, reports_of, totals_after_all, IsHandedOn}
 use Rattle.worked.specs.Image.{master, master_words}
 use Rattle.worked.specs.Laws.Maximum.{stating}
 use Rattle.worked.specs.Laws.ListImages.{of_a, first, clip, last, space, total, at_first}
@@ -55,7 +55,7 @@ pub record Worked : Type 0 where
   pub told : reports_of list first ≡ reports
   pub entered : ledger_after reports (first_ledger first) ≡ ledger
   -- each call is handed what the one before gave back
-  pub handed-on : HandedOn fresh list first
+  pub handed-on : IsHandedOn fresh list first
   pub handed-back : totals_after_all fresh list first ≡ totals 1649 5883 5
 
 pub first-a : span first 0x500 0x100 ≡ of_a ++ replicate 0xF8 0
@@ -63,10 +63,10 @@ unfolding first stating master put
 first-a = refl
 
 ledger-is : ledger_after reports (first_ledger first) ≡ ledger
-unfolding ledger_after first_histories files_before put_in insert_at splice bump set_place
+unfolding ledger_after first_histories files_before put_in insert_at splice raised_next set_place
 ledger-is = rw (at_first.tree, first-a)
 
-handed-on : HandedOn fresh list first
+handed-on : IsHandedOn fresh list first
 unfolding list
 handed-on =
     rw (

@@ -8,11 +8,11 @@ use Rattle.disc.proofs.regions.record_of.Goals as goal
 pub overflow_add-table_end : goal.overflow_add-table_end
 overflow_add-table_end c =
     let m = means_backed _ _ _ _ _ c.disc.invariant _ c.disc.view_is in
-    omega (arith, table_end_fits _ _ m, c.start.ensures, c.room.ensures)
+    omega (arith, table_end_fits _ _ m, c.start.ensures, c.table_size.ensures)
 
 pub new-used-requires : goal.new-used-requires
 new-used-requires c = sorted_backed _ _ _ _ _ c.disc.invariant _ c.disc.view_is _ c.end-disc_end.ensures
 
 pub returns : goal.returns
 returns c =
-    λ image m. recorded image _ m _ _ (open_backed _ _ _ _ _ c.disc.invariant _ c.disc.view_is image m) _ _ _ _ c.end-disc_end.ensures (omega (arith, c.start.ensures, c.room.ensures)) c.used_size.ensures (rw (c.new-used.ensures, behind-first c.disc.inside.words.now c.disc.inside.used) at c.largest_after.ensures)
+    λ image m. recorded image _ m _ _ (open_backed _ _ _ _ _ c.disc.invariant _ c.disc.view_is image m) _ _ _ _ c.end-disc_end.ensures (omega (arith, c.start.ensures, c.table_size.ensures)) c.used_size.ensures (rw (c.new-used.ensures, behind-first c.disc.inside.words.now c.disc.inside.used) at c.largest_after.ensures)

@@ -8,9 +8,9 @@ pub write_table-requires-clause-valid : goal.write_table-requires-clause-valid
 write_table-requires-clause-valid c = opens-valid _ c.table.ensures.opens
 
 pub returns : goal.returns
-returns c = λ image m. rewrite-decided image c.args.disc.now m c.args.bytes.now _ c.check_table.ensures.answer _ _ c.in_ok-size.was (rw c.table.ensures.nodes at c.write_table.ensures)
+returns c = λ image m. rewrite-decided image c.args.disc.now m c.args.bytes.now _ c.check_new_table.ensures.answer _ _ c.in_ok-size.was (rw c.table.ensures.nodes at c.write_table.ensures)
 
 pub returns-in_err-size : goal.returns-in_err-size
 returns-in_err-size c =
     let p = err_from_is_err_and c.from_residual.result c.from_residual.ensures.1 in
-    rw (p.1, p.2) (λ image m. rewrite-refused image c.args.disc.now m c.args.bytes.now _ c.check_table.ensures.answer _ _ c.in_err-size.was)
+    rw (p.1, p.2) (λ image m. rewrite-refused image c.args.disc.now m c.args.bytes.now _ c.check_new_table.ensures.answer _ _ c.in_err-size.was)

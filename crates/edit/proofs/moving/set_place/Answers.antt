@@ -9,7 +9,7 @@ pub returns-in_err-size : goal.returns-in_err-size
 returns-in_err-size c =
     let a = c.args in
     let p = err_from_is_err_and c.from_residual.result c.from_residual.ensures.1 in
-    rw (p.1, p.2) (λ image m. place-refused image a.disc.now m a.bytes.now _ a.number a.writing c.check_table.ensures.answer _ _ c.in_err-size.was)
+    rw (p.1, p.2) (λ image m. place-refused image a.disc.now m a.bytes.now _ a.number a.writing c.check_new_table.ensures.answer _ _ c.in_err-size.was)
 
 pub write_table-requires-clause-valid : goal.write_table-requires-clause-valid
 write_table-requires-clause-valid c = opens-valid _ c.table.ensures.opens
@@ -17,7 +17,7 @@ write_table-requires-clause-valid c = opens-valid _ c.table.ensures.opens
 pub returns : goal.returns
 returns c =
     let a = c.args in
-    λ image m. place-decided image a.disc.now m a.bytes.now _ a.number a.writing c.check_table.ensures.answer _ _ _ c.in_ok-size.was c.requires.is_file (c.requires.inside image m) (rw c.table.ensures.nodes at c.write_table.ensures) c.set_place.ensures
+    λ image m. place-decided image a.disc.now m a.bytes.now _ a.number a.writing c.check_new_table.ensures.answer _ _ _ c.in_ok-size.was c.requires.is_file (c.requires.inside image m) (rw c.table.ensures.nodes at c.write_table.ensures) c.set_place.ensures
 
 pub set_place-requires : goal.set_place-requires
 set_place-requires c = omega (arith, entry-fits c.args.disc.now.disc.nodes c.args.number _ c.requires.is_file c.in_ok-size.ensures.held, c.write_table.auto.bytes)

@@ -24,9 +24,9 @@ pub returns-then-table-eq0 : goal.returns-then-table-eq0
 unfolding check
 returns-then-table-eq0 c = search (le-ltb, eq-eqb)
 
-pub returns-then-count-gt16384 : goal.returns-then-count-gt16384
+pub returns-then-count-gt-ENTRIES_LIMIT : goal.returns-then-count-gt-ENTRIES_LIMIT
 unfolding check
-returns-then-count-gt16384 c =
+returns-then-count-gt-ENTRIES_LIMIT c =
     let T = c.args.table.now in
     rw (le-ltb (length T) 12 c.if-table-lt12.false, le-ltb 1 (kind T 0) c.if-table-gt1.false, ne_eqb (kind T 0) 0 c.if-table-eq0.false, lt-ltb 16384 (count T) (omega arith))
 

@@ -19,8 +19,8 @@ returns-then-table-ne1 c =
     let r : root_refused T ≡ true = rw (le-ltb (length T) 12 c.if-table-lt12.false, ne_eqb (kind T 0) 1 c.if-table-ne1.true) in
     entry-of-root T c.args.words r
 
-pub returns-then-count-gt16384 : goal.returns-then-count-gt16384
-returns-then-count-gt16384 c =
+pub returns-then-count-gt-ENTRIES_LIMIT : goal.returns-then-count-gt-ENTRIES_LIMIT
+returns-then-count-gt-ENTRIES_LIMIT c =
     let T = c.args.table.now in
     let r : root_refused T ≡ true =
     rw (le-ltb (length T) 12 c.if-table-lt12.false, eq-eqb (kind T 0) 1 c.if-table-ne1.false, lt-ltb 16384 (count T) (omega arith)) in

@@ -2,15 +2,15 @@
 use native.Mathlib.Omega.{arith}
 use mathlib.Core.Path.{sym, ◌∙◌}
 use borrow.Author.Tests.{eqb-true}
-use Rattle.table.proofs.Walking.{shut-keep, shut-drop, shut_none}
+use Rattle.table.proofs.Walking.{dirs_open_at-keep, dirs_open_at-drop, shut_none}
 use Rattle.table.proofs.acceptance.shut.Goals as goal
 
 pub returns-then-k-top : goal.returns-then-k-top
-returns-then-k-top c = sym (c.loop-dirs.invariant ∙ shut-keep c.loop-dirs.dirs c.args.k (omega (arith, c.top.ensures, c.if-k-top.true)))
+returns-then-k-top c = sym (c.loop-dirs.invariant ∙ dirs_open_at-keep c.loop-dirs.dirs c.args.k (omega (arith, c.top.ensures, c.if-k-top.true)))
 
 pub loop-dirs-preserved : goal.loop-dirs-preserved
 loop-dirs-preserved c =
-    rw c.pop.ensures.rest (c.loop-dirs.invariant ∙ shut-drop c.loop-dirs.dirs c.args.k (omega (arith, c.top.ensures, c.if-k-top.false)))
+    rw c.pop.ensures.rest (c.loop-dirs.invariant ∙ dirs_open_at-drop c.loop-dirs.dirs c.args.k (omega (arith, c.top.ensures, c.if-k-top.false)))
 
 pub returns : goal.returns
 returns c =

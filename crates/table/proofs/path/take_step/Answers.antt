@@ -15,13 +15,13 @@ pub returns-then-not-is_directory-clause-onward : goal.returns-then-not-is_direc
 returns-then-not-is_directory-clause-onward c =
     step-file (nodes_of c.args.table.now) c.args.trail.now c.args.k c.args.name.now (sym c.is_directory.ensures ∙ c.if-not-is_directory.true)
 
-pub returns-then-stays-clause-onward : goal.returns-then-stays-clause-onward
-returns-then-stays-clause-onward c =
-    step-stay (nodes_of c.args.table.now) c.args.trail.now c.args.k c.args.name.now (sym c.is_directory.ensures ∙ c.if-not-is_directory.false) (sym c.stays.ensures ∙ c.if-stays.true)
+pub returns-then-is_staying-clause-onward : goal.returns-then-is_staying-clause-onward
+returns-then-is_staying-clause-onward c =
+    step-stay (nodes_of c.args.table.now) c.args.trail.now c.args.k c.args.name.now (sym c.is_directory.ensures ∙ c.if-not-is_directory.false) (sym c.is_staying.ensures ∙ c.if-is_staying.true)
 
 pub returns-in-Some-clause-onward : goal.returns-in-Some-clause-onward
 returns-in-Some-clause-onward c cs =
-    step_back_lem (nodes_of c.args.table.now) c.args.trail.now c.args.k c.args.name.now (sym c.is_directory.ensures ∙ c.if-not-is_directory.false) (sym c.stays.ensures ∙ c.if-stays.false) (sym c.goes_back.ensures ∙ c.if-goes_back.true) cs
+    step_back_lem (nodes_of c.args.table.now) c.args.trail.now c.args.k c.args.name.now (sym c.is_directory.ensures ∙ c.if-not-is_directory.false) (sym c.is_staying.ensures ∙ c.if-is_staying.false) (sym c.is_going_back.ensures ∙ c.if-is_going_back.true) cs
     ∙ rw (back-some c.args.trail.now c.pop.new.self c.in-Some.left c.in-Some.ensures.value c.pop.ensures.rest)
 
 pub returns-in-Some-clause-trail : goal.returns-in-Some-clause-trail
@@ -31,7 +31,7 @@ returns-in-Some-clause-trail c =
 
 pub returns-in-None-clause-onward : goal.returns-in-None-clause-onward
 returns-in-None-clause-onward c cs =
-    step_back_lem (nodes_of c.args.table.now) c.args.trail.now c.args.k c.args.name.now (sym c.is_directory.ensures ∙ c.if-not-is_directory.false) (sym c.stays.ensures ∙ c.if-stays.false) (sym c.goes_back.ensures ∙ c.if-goes_back.true) cs
+    step_back_lem (nodes_of c.args.table.now) c.args.trail.now c.args.k c.args.name.now (sym c.is_directory.ensures ∙ c.if-not-is_directory.false) (sym c.is_staying.ensures ∙ c.if-is_staying.false) (sym c.is_going_back.ensures ∙ c.if-is_going_back.true) cs
     ∙ rw (back-none c.args.trail.now c.in-None.ensures.value)
 
 pub child-requires : goal.child-requires
@@ -41,7 +41,7 @@ pub returns-in_err-child-clause-onward : goal.returns-in_err-child-clause-onward
 returns-in_err-child-clause-onward c cs =
     let p = err_from_is_err_and c.from_residual.result c.from_residual.ensures.1 in
     rw (p.1, p.2)
-    (step-into (nodes_of c.args.table.now) c.args.trail.now c.args.k c.args.name.now (sym c.is_directory.ensures ∙ c.if-not-is_directory.false) (sym c.stays.ensures ∙ c.if-stays.false) (sym c.goes_back.ensures ∙ c.if-goes_back.false) cs
+    (step-into (nodes_of c.args.table.now) c.args.trail.now c.args.k c.args.name.now (sym c.is_directory.ensures ∙ c.if-not-is_directory.false) (sym c.is_staying.ensures ∙ c.if-is_staying.false) (sym c.is_going_back.ensures ∙ c.if-is_going_back.false) cs
     ∙ rw (← c.in_err-child.ensures))
 
 pub overflow_cast-k : goal.overflow_cast-k
@@ -56,7 +56,7 @@ push-requires c =
 pub returns-clause-onward : goal.returns-clause-onward
 returns-clause-onward c cs =
     rw c.push.ensures
-    (step-into (nodes_of c.args.table.now) c.args.trail.now c.args.k c.args.name.now (sym c.is_directory.ensures ∙ c.if-not-is_directory.false) (sym c.stays.ensures ∙ c.if-stays.false) (sym c.goes_back.ensures ∙ c.if-goes_back.false) cs
+    (step-into (nodes_of c.args.table.now) c.args.trail.now c.args.k c.args.name.now (sym c.is_directory.ensures ∙ c.if-not-is_directory.false) (sym c.is_staying.ensures ∙ c.if-is_staying.false) (sym c.is_going_back.ensures ∙ c.if-is_going_back.false) cs
     ∙ rw (← c.in_ok-child.ensures))
 
 pub returns-clause-trail : goal.returns-clause-trail

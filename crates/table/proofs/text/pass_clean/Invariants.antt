@@ -2,12 +2,12 @@
 use Prim.Native.Nat.{◌-◌}
 use mathlib.Core.Path.{◌≡◌}
 use lib.ListN.{length}
-use Rattle.table.specs.Inner.Texts.{clean_from, HasNoLead}
+use Rattle.table.specs.Inner.Texts.{is_clean_from, HasNoLead}
 use Rattle.table.proofs.Chart.{Charts}
 use Rattle.table.proofs.text.pass_clean.Given as goal
 
 abbrev pub invariant-loop-end : goal.invariant-loop-end
-invariant-loop-end l = Charts l.chart × HasNoLead l.table l.from l.end × (clean_from l.table l.from ≡ clean_from l.table l.end)
+invariant-loop-end l = Charts l.chart × HasNoLead l.table l.from l.end × (is_clean_from l.table l.from ≡ is_clean_from l.table l.end)
 
 abbrev pub decreases-loop-end : goal.decreases-loop-end
 decreases-loop-end l = length l.table - l.end

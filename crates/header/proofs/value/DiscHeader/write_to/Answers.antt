@@ -8,4 +8,4 @@ use Rattle.header.proofs.value.DiscHeader.write_to.Goals as goal
 pub returns : goal.returns
 returns c =
     let i = c.args.image.now in
-    rw (le-ltb (length i) 0x440 c.if-image-lt1088.false) (record { value = refl; image_after = cc (put-parts c.args.self i) })
+    rw (le-ltb (length i) 0x440 c.if-image-lt-HEADER_LEN.false) (record { value = refl; image_after = cc (put-parts c.args.self i) })

@@ -11,7 +11,7 @@ loop-region-init c = rw (c.into_iter-region-iterator.ensures.into_iter_gives, c.
 pub returns-then-offset-region : goal.returns-then-offset-region
 returns-then-offset-region c =
     let i = rw c.in-Some.ensures.steps at c.loop-region.invariant in
-    c.beside_free.ensures ∙ grown-found _ _ _ _ _ c.if-offset-region.true ∙ i.4
+    c.size_beside_free.ensures ∙ grown-found _ _ _ _ _ c.if-offset-region.true ∙ i.4
 
 pub loop-region-preserved : goal.loop-region-preserved
 loop-region-preserved c =
@@ -20,4 +20,4 @@ loop-region-preserved c =
 
 pub returns : goal.returns
 unfolding max_size_from
-returns c = c.inside_free.ensures ∙ (rw c.in-None.ensures.steps.0 at c.loop-region.invariant).4
+returns c = c.size_inside_free.ensures ∙ (rw c.in-None.ensures.steps.0 at c.loop-region.invariant).4

@@ -3,14 +3,13 @@ use Rattle.std.proofs.Common.{arith}
 use Rattle.space.specs.Used.{total_size}
 use Rattle.space.proofs.Kept.{used-fits}
 use Rattle.space.proofs.used.UsedRegions.used_size.Goals as goal
+use Rattle.space.specs.Laws.SizeLaws.{total-step}
 
 pub overflow_add-used : goal.overflow_add-used
-unfolding total_size
-overflow_add-used c = omega (arith, (rw c.in-Some.ensures.steps at c.loop-region.invariant).2, used-fits _ _ _ c.self.invariant.sorted _ c.self.view_is, c.self.invariant.small)
+overflow_add-used c = omega (arith, total-step _ _ _ _ (rw c.in-Some.ensures.steps at c.loop-region.invariant).2, used-fits _ _ _ c.self.invariant.sorted _ c.self.view_is, c.self.invariant.small)
 
 pub loop-region-preserved : goal.loop-region-preserved
-unfolding total_size
-loop-region-preserved c = (tt, tt, omega (arith, (rw c.in-Some.ensures.steps at c.loop-region.invariant).2))
+loop-region-preserved c = (tt, tt, total-step _ _ _ _ (rw c.in-Some.ensures.steps at c.loop-region.invariant).2)
 
 pub returns : goal.returns
 unfolding total_size

@@ -1,12 +1,12 @@
 -- `Entries::enter` meets its contract: a directory's next goes on top of the others, and there is room for it since it is at most 64 deep.
 use native.Mathlib.Omega.{arith}
-use Rattle.table.proofs.Walking.{node-file, node-directory, enter-room}
+use Rattle.table.proofs.Walking.{node-file, node-directory, dirs_with-room}
 use Rattle.table.proofs.acceptance.Entries.enter.Goals as goal
 
 pub push-requires : goal.push-requires
 push-requires c =
     let a = c.args in
-    omega (arith, enter-room a.self.now.table.now a.self.now.count a.k a.dirs.now c.if-self-k-ne0.true c.requires.passed)
+    omega (arith, dirs_with-room a.self.now.table.now a.self.now.count a.k a.dirs.now c.if-self-k-ne0.true c.requires.passed)
 
 pub returns-then-self-k-ne0 : goal.returns-then-self-k-ne0
 returns-then-self-k-ne0 c =

@@ -33,9 +33,9 @@ returns-then-top-next c =
     let t = top a.dirs.now in
     rw (node-directory a.self.now.table.now a.self.now.count a.k c.if-self-k-eq0.false, lt-leb n a.k (omega arith), le-ltb a.self.now.count n (omega arith), lt-ltb t n (omega arith))
 
-pub returns-then-len-gt64 : goal.returns-then-len-gt64
+pub returns-then-len-gt-DEPTH_LIMIT : goal.returns-then-len-gt-DEPTH_LIMIT
 unfolding next_verdict
-returns-then-len-gt64 c =
+returns-then-len-gt-DEPTH_LIMIT c =
     let a = c.args in
     let n = size_or_next a.self.now.table.now a.k in
     let t = top a.dirs.now in

@@ -6,8 +6,8 @@ use mathlib.Core.Path.{◌≡◌, sym, ◌∙◌}
 use mathlib.Core.Bool.{Bool}
 use mathlib.Core.List.{List}
 use lib.ListN.{length, get_or}
-use Rattle.endian.specs.Bytes.{same_bytes}
-use Rattle.tree.specs.Table.{none, count, name_of, nodes_of, name_place}
+use Rattle.endian.specs.Bytes.{are_same_bytes}
+use Rattle.tree.specs.Table.{empty_root, count, name_of, nodes_of, name_place}
 use Rattle.tree.proofs.Laws.Accepted.{length-nodes_of}
 use Rattle.table.specs.Inner.Texts.{text_at}
 use Rattle.table.proofs.Nodes.{held}
@@ -17,7 +17,7 @@ use Rattle.table.proofs.ChildLaws.{search-start, search-found, search-turn, sear
 use Rattle.table.proofs.Unlike.{unlike-start, unlike-turn}
 use Rattle.table.proofs.entries.Table.child_named.Goals as goal
 
-named : (T nm : List ℕ) (k place : ℕ) (r : Bool) → 0 < k → k < count T → place ≡ name_place T k → r ≡ same_bytes (text_at T place) nm → same_bytes (name_of (get_or (nodes_of T) k none)) nm ≡ r
+named : (T nm : List ℕ) (k place : ℕ) (r : Bool) → 0 < k → k < count T → place ≡ name_place T k → r ≡ are_same_bytes (text_at T place) nm → are_same_bytes (name_of (get_or (nodes_of T) k empty_root)) nm ≡ r
 named T nm k place r h l p e = rw (name-there T k h l) (sym (rw p at e))
 
 pub loop-k-init : goal.loop-k-init

@@ -3,7 +3,7 @@ use native.Mathlib.Omega.{arith}
 use mathlib.Core.Path.{◌∙◌, ap}
 use Prim.Native.Nat.{◌<◌}
 use lib.ListN.{length, length-set}
-use Rattle.table.proofs.Walking.{length-open, open-enter}
+use Rattle.table.proofs.Walking.{length-open, open-dirs_with}
 use Rattle.table.proofs.stack.Stack.push.Goals as goal
 
 pub bounds-self-inside-self-inside : goal.bounds-self-inside-self-inside
@@ -19,4 +19,4 @@ pub returns : goal.returns
 returns c =
     let s = c.self.inside in
     let r : s.depth < length s.words = omega (arith, ap length c.self.view_is, length-open s.words s.depth, c.requires, c.self.invariant.long) in
-    rw (← c.self.view_is) (open-enter s.words s.depth c.args.number r)
+    rw (← c.self.view_is) (open-dirs_with s.words s.depth c.args.number r)

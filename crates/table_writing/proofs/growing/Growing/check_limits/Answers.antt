@@ -5,8 +5,8 @@ use Rattle.table_writing.proofs.growing.Growing.check_limits.Goals as goal
 pub read_u32-count-requires : goal.read_u32-count-requires
 read_u32-count-requires c = search count_held
 
-pub returns-then-count-ge16384 : goal.returns-then-count-ge16384
-returns-then-count-ge16384 c = search past-count
+pub returns-then-count-ge-ENTRIES_LIMIT : goal.returns-then-count-ge-ENTRIES_LIMIT
+returns-then-count-ge-ENTRIES_LIMIT c = search past-count
 
 pub overflow_sub-texts : goal.overflow_sub-texts
 overflow_sub-texts c = search entries_fit
