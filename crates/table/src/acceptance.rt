@@ -242,8 +242,8 @@ impl<'a> Entries<'a> {
 
     // Whether one of those before the walk refuses the table.
     // Kept: a question that one test asks, as `unended`.
-    fn texts_refused(&self, words: usize) -> bool
-        ensures { result ≡ faults.texts_refused self.now.table.now self.now.count words }
+    fn are_texts_refused(&self, words: usize) -> bool
+        ensures { result ≡ faults.are_texts_refused self.now.table.now self.now.count words }
     {
         self.is_unended()
             || TEXTS_LIMIT < self.table.len() - 12 * self.count
@@ -307,7 +307,7 @@ pub fn refused_entry(table: &[u8], words: usize) -> Option<u32>
         return first_refused(table, count);
     }
     let entries = Entries { table, count };
-    if entries.texts_refused(words) {
+    if entries.are_texts_refused(words) {
         return None;
     }
     entries.walk_refused()
