@@ -78,6 +78,20 @@ pub const DOL_WORDS: usize = 57;
 /// Bytes of a disc header.
 pub const HEADER_SIZE: usize = 0x440;
 
+/// Bytes of a cluster.
+pub const CLUSTER_SIZE: u32 = 0x8000;
+
+/// Limits, as counter.h has them: an image with more does not open, and no edit makes one.
+pub const MOST_ENTRIES: usize = 16_384;
+pub const MOST_TEXT: usize = 1_048_576;
+pub const MOST_LEVELS: usize = 64;
+pub const MOST_PATH: usize = 1_024;
+
+/// What an image within them wants to be lent at most.
+pub const MOST_REGIONS: usize = MOST_ENTRIES + 1;
+pub const MOST_WORDS: usize = 4 * (MOST_ENTRIES + 2);
+pub const MOST_TABLE: usize = 12 * MOST_ENTRIES + MOST_TEXT;
+
 /// A call of a C function: a slice that it reads (`in`) or is lent (`mut`) goes in as a pointer and a
 /// length, a number or slots of fixed length (`=`) as they are.
 #[macro_export]
