@@ -1,12 +1,12 @@
-//! The parts of an image that are no files, held against what they were: the header field by field, the system
-//! area, the table, the program, and what lies behind the disc end.
+//! The parts of an image that are no files, held against what they were: the header field by field, the
+//! system area, the table, the program, and what lies behind the disc end.
 
 use crate::given::Given;
 use crate::header::{FIELDS, FST_SIZE, Field};
 use crate::json::Json;
 use crate::layout::Layout;
 use crate::manifest::OLD_HEADER;
-use crate::stored::what_lies_at;
+use crate::stored::{Departure, what_lies_at};
 use crate::text::grouped;
 
 pub const UNCHANGED: &str = "unchanged";
@@ -141,26 +141,25 @@ pub enum Was {
 pub fn table(new: &Layout, bytes: &[u8], was: Was) -> Area {
     const NAME: &str = "table";
     let fst = new.fst.0.into();
-    let lies = |at: u64| format!("at {at:#x}, {}", what_lies_at(at, fst, bytes));
-    let rewrite = |at: u64| format!("what a rewrite writes differs first {}", lies(at));
+    let lies = |at: u64| what_lies_at(at, fst, bytes);
+    let rewrite = match new.departure {
+        Departure::None => String::new(),
+        Departure::At(at) => {
+            format!("what a rewrite writes differs first at {at:#x}, {}", lies(at))
+        }
+        Departure::Refused(number) => format!("a rewrite of it is refused ({number})"),
+    };
     match (was, new.departure) {
         (Was::Same, _) => Area::new(NAME),
-        (_, None) => Area { status: ANEW, ..Area::new(NAME) },
-        (Was::Differs(at), Some(anew)) => {
-            let more = match at == anew {
-                true => format!(
-                    "{}; a rewrite writes that otherwise, too",
-                    what_lies_at(at, fst, bytes)
-                ),
-                false => format!("{}; {}", what_lies_at(at, fst, bytes), rewrite(anew)),
-            };
+        (_, Departure::None) => Area { status: ANEW, ..Area::new(NAME) },
+        (Was::Differs(at), Departure::At(anew)) if at == anew => {
+            let more = format!("{}; a rewrite writes that otherwise, too", lies(at));
             Area::changed(NAME, Some(at), more)
         }
-        (Was::Other, Some(anew)) => {
-            Area::changed(NAME, None, format!("not as it was; {}", rewrite(anew)))
-        }
-        (Was::Unknown, Some(anew)) => {
-            let more = format!("the manifest has no sum of it; {}", rewrite(anew));
+        (Was::Differs(at), _) => Area::changed(NAME, Some(at), format!("{}; {rewrite}", lies(at))),
+        (Was::Other, _) => Area::changed(NAME, None, format!("not as it was; {rewrite}")),
+        (Was::Unknown, _) => {
+            let more = format!("the manifest has no sum of it; {rewrite}");
             Area { status: UNKNOWN, ..Area::changed(NAME, None, more) }
         }
     }
@@ -183,8 +182,8 @@ pub fn program(old: &Layout, new: &Layout, given: &Given, first: &First) -> Opti
     })
 }
 
-/// The disc end, and what lies behind it. Leave for the fields that make the disc end is leave for another one,
-/// and for nothing that lies behind both.
+/// The disc end, and what lies behind it. Leave for the fields that make the disc end is leave for another
+/// one, and for nothing that lies behind both.
 pub fn tail(old: &Layout, new: &Layout, given: &Given, first: &First) -> Area {
     const NAME: &str = "disc end and all behind it";
     let end = u64::from(old.disc_end.max(new.disc_end));

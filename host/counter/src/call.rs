@@ -2,14 +2,14 @@
 //! maximum is stated by the program: no call of the library writes it.
 
 use crate::args::Args;
-use crate::change::FST_MAXIMUM;
 use crate::clip::Clip;
-use crate::disc::{A_FOLDER, CLUSTER, LONGEST_PATH, TOO_LONG, no_path};
+use crate::disc::{A_FOLDER, CLUSTER, TOO_LONG, no_path};
 use crate::failure::{Failure, Outcome};
+use crate::header::FST_MAXIMUM_AT;
 use crate::image::{Desk, Image};
 use crate::names::{parts, text, trouble};
 use crate::text::{grouped, number};
-use counter_sys::{self as counter, Memory, Record};
+use counter_sys::{self as counter, MOST_PATH, Memory, Record};
 use std::fs::Metadata;
 use std::path::Path;
 
@@ -178,7 +178,7 @@ impl<'a> Call<'a> {
             }
             Call::Rewrite => counter::rewrite(image, memory, record).map(|()| None),
             Call::Maximum(to) => {
-                image[FST_MAXIMUM as usize..][..4].copy_from_slice(&to.to_be_bytes());
+                image[FST_MAXIMUM_AT..][..4].copy_from_slice(&to.to_be_bytes());
                 Ok(None)
             }
         }
@@ -203,7 +203,7 @@ fn place_for(at: u32, image: &Image, desk: &mut Desk) -> Result<u32, u32> {
 pub fn refused(wish: &Wish, number: u32) -> Failure {
     let failure = Failure::refused(number, wish.words());
     match (number, wish) {
-        (9, Wish::MakeFolders(path)) if path.len() > LONGEST_PATH => failure.because(TOO_LONG),
+        (9, Wish::MakeFolders(path)) if path.len() > MOST_PATH => failure.because(TOO_LONG),
         (9, _) => failure.because("more entries, bytes of names or levels than a table may have"),
         (12 | 13, _) => match wish.trouble(number) {
             Some(trouble) => failure.because(trouble),

@@ -1,14 +1,12 @@
 //! All that one edit writes, known before it writes: the table in its place with its size in the
 //! header, a file's bytes to a new place or a clip's to the file's, and zeros; or another FST maximum.
 
+use crate::header::{FST_MAXIMUM_AT, FST_SIZE_AT};
+use counter_sys::HEADER_SIZE;
 use std::ops::Range;
 
-/// Where the header has the table's size, and the most that it may have.
-const FST_SIZE: u64 = 0x428;
-pub const FST_MAXIMUM: u64 = 0x42C;
-
 /// Where the header ends.
-pub const HEADER: u64 = 0x440;
+pub const HEADER: u64 = HEADER_SIZE as u64;
 
 #[derive(Debug, Clone, PartialEq, Eq)]
 pub struct Change {
@@ -38,10 +36,10 @@ impl Change {
     /// The word of the header that is written: where it is, before and after.
     pub fn word(&self) -> (u64, [u8; 4], [u8; 4]) {
         let (at, (old, new)) = match self.maximum {
-            Some(stated) => (FST_MAXIMUM, stated),
-            None => (FST_SIZE, (self.old_size, self.new_size)),
+            Some(stated) => (FST_MAXIMUM_AT, stated),
+            None => (FST_SIZE_AT, (self.old_size, self.new_size)),
         };
-        (at, old.to_be_bytes(), new.to_be_bytes())
+        (at as u64, old.to_be_bytes(), new.to_be_bytes())
     }
 
     pub fn table_span(&self) -> Range<u64> {

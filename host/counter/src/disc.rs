@@ -5,24 +5,19 @@ use crate::image::{Desk, Image};
 use crate::names;
 use crate::trouble;
 use counter_sys::{
-    self as counter, Answer, CLUSTER_WORDS, ENTRY_WORDS, Memory, Opened, REGION_WORDS, Region,
+    self as counter, Answer, CLUSTER_WORDS, ENTRY_WORDS, MOST_ENTRIES, MOST_REGIONS, MOST_TABLE,
+    Memory, Opened, REGION_WORDS, Region,
 };
 use std::path::Path;
 use std::sync::atomic::{AtomicBool, Ordering};
-
-/// Most entries of a table that opens.
-const MOST_ENTRIES: usize = 16_384;
-
-/// Most free regions: one behind the table, one behind the program and one behind each file.
-const MOST_REGIONS: usize = MOST_ENTRIES + 1;
 
 /// Most bytes that all paths of an image may take to be kept. Names can share one long text, so that
 /// 16,384 paths of 64 MiB each are possible; those of a real disc take some hundred KiB.
 const MOST_PATHS: u64 = 64 << 20;
 
-/// Bytes of a cluster. Games' files begin on its multiples, so a place is looked for there if nothing
-/// else is said, and planners count free space in it.
-pub const CLUSTER: u32 = 0x8000;
+/// Games' files begin on multiples of a cluster, so a place is looked for there if nothing else is said, and
+/// planners count free space in them.
+pub const CLUSTER: u32 = counter::CLUSTER_SIZE;
 
 #[derive(Clone, Copy, PartialEq, Eq)]
 pub enum Kind {
@@ -76,7 +71,7 @@ pub fn space(path: Option<&Path>) -> Outcome<(Image, Desk, Space)> {
     Ok((image, desk, space))
 }
 
-/// What opening tells, and the free regions: no name is looked at.
+/// What opening tells, and the free regions, without names.
 pub struct Space {
     pub opened: Opened,
     pub free: Vec<Region>,
@@ -85,11 +80,9 @@ pub struct Space {
 
 impl Space {
     pub fn read(image: &Image, desk: &mut Desk) -> Outcome<Space> {
-        let opened = counter::open(image.bytes(), &mut desk.lend())
-            .map_err(|number| not_opened(image, number))?;
+        let (opened, list) = entries(image, desk)?;
         let free = free_regions(image, desk)?;
-        let kinds = image.bytes()[opened.fst_offset as usize..].iter().step_by(12);
-        let files = kinds.take(opened.entries as usize).filter(|&&kind| kind == 0).count();
+        let files = list.iter().filter(|words| words[0] == 0).count();
         tell_of_nkit(image);
         Ok(Space { opened, free, files })
     }
@@ -99,12 +92,9 @@ impl Space {
         self.opened.entries as usize - self.files - 1
     }
 
+    /// What is not used, below the disc end, is free.
     pub fn free_bytes(&self) -> u64 {
-        self.free.iter().map(|region| u64::from(region.size)).sum()
-    }
-
-    pub fn largest(&self) -> u32 {
-        self.free.iter().map(|region| region.size).max().unwrap_or(0)
+        self.opened.disc_end.saturating_sub(self.opened.used).into()
     }
 }
 
@@ -155,7 +145,8 @@ pub struct Disc {
 impl Disc {
     /// Opens the image and reads its entries and free regions.
     pub fn read(image: &Image, desk: &mut Desk) -> Outcome<Disc> {
-        let (opened, nodes) = entries(image, desk)?;
+        let (opened, list) = entries(image, desk)?;
+        let nodes = list.iter().enumerate().map(|(i, words)| node(i as u32, words)).collect();
         let free = free_regions(image, desk)?;
         let mut disc = Disc { opened, nodes, free, named: false };
         disc.keep_paths(image)?;
@@ -246,19 +237,21 @@ fn tell_of_nkit(image: &Image) {
     }
 }
 
-/// What opening tells, and the entries, without names and paths.
-pub fn entries(image: &Image, desk: &mut Desk) -> Outcome<(Opened, Vec<Node>)> {
+/// What opening tells, and the six words of each entry.
+fn entries(image: &Image, desk: &mut Desk) -> Outcome<(Opened, Vec<[u32; ENTRY_WORDS]>)> {
     let mut list = vec![[0; ENTRY_WORDS]; MOST_ENTRIES];
     let opened = counter::entries(image.bytes(), &mut desk.lend(), list.as_flattened_mut())
         .map_err(|number| not_opened(image, number))?;
     list.truncate(opened.entries as usize);
-    let nodes = list.iter().enumerate().map(|(i, words)| node(i as u32, words)).collect();
-    Ok((opened, nodes))
+    Ok((opened, list))
 }
 
-/// The size of the table of these entries, the root first, as an edit writes it: each name by itself.
-pub fn written_size(nodes: &[Node]) -> u64 {
-    12 + nodes.iter().skip(1).map(|node| 13 + u64::from(node.place.1)).sum::<u64>()
+/// The table that a rewrite of the image's tree writes, each name by itself; 9 where it passes a limit.
+pub fn table_anew(image: &Image, desk: &mut Desk) -> Result<Vec<u8>, u32> {
+    let mut table = vec![0; MOST_TABLE];
+    let len = counter::table_anew(image.bytes(), desk.lend().words, &mut table)?;
+    table.truncate(len);
+    Ok(table)
 }
 
 /// The entry that six words tell, without its path.
@@ -280,8 +273,7 @@ fn name<'a>(image: &'a Image, node: &Node) -> Option<&'a [u8]> {
     fit.then_some(name)
 }
 
-/// How many bytes a path may have, and what is said of a longer one.
-pub const LONGEST_PATH: usize = 1024;
+/// What is said of a path that is longer than any may be.
 pub const TOO_LONG: &str = "a path has at most 1,024 bytes";
 
 /// What is said of a folder in the place of a file.

@@ -1,6 +1,6 @@
 //! The writes and syncs of an edit, of its journal, its clip and its record: all of them pass here, so that
-//! a test can log them, or let one fail. (The proved call writes through a mapping; what it changed is found by
-//! comparing.)
+//! a test can log them, or let one fail. (The proved call writes through a mapping; what it changed is
+//! found by comparing.)
 //!
 //! COUNTER_LOG_WRITES names the file of the log. COUNTER_FULL_FROM=n lets the n-th step that takes room,
 //! and all after it, fail as on a full disk; COUNTER_ASSUME_ROOM lets an edit begin on a disk that is
@@ -35,8 +35,6 @@ const AT_ONCE: u64 = 16 << 20;
 
 /// A disk writes at least so many bytes at once, or none of them.
 const SECTOR: usize = 0x200;
-
-const FULL: i32 = 28;
 
 /// Whether an error says that there is no room left.
 pub fn is_full(error: &io::Error) -> bool {
@@ -229,7 +227,7 @@ fn step() -> io::Result<()> {
     let fails = FAILS.get_or_init(|| env::var("COUNTER_FULL_FROM").ok()?.parse().ok());
     let count = STEPS.fetch_add(1, Ordering::SeqCst) + 1;
     match fails.is_some_and(|from| from <= count) {
-        true => Err(io::Error::from_raw_os_error(FULL)),
+        true => Err(io::ErrorKind::StorageFull.into()),
         false => Ok(()),
     }
 }

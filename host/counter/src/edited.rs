@@ -14,8 +14,8 @@ use std::collections::{HashMap, HashSet};
 /// `trial` is the edit as it was tried.
 pub fn json(args: &Args, wish: &Wish, call: &Call, before: &Disc, trial: &Trial) -> Json {
     let (after, nothing) = (&trial.after, trial.change.is_nothing());
-    if let Call::Maximum(to) = *call {
-        return stated(args, trial, &Maximum::of(to, after));
+    if let Some(maximum) = &trial.maximum {
+        return stated(args, trial, maximum);
     }
     // A fill writes other bytes where the place may be the same.
     let filled = call.file().filter(|_| trial.change.clip);

@@ -1,6 +1,7 @@
 //! Why a command did not do what was asked: a refusal with its number, or an error with its exit
 //! status.
 
+use crate::cause::cause;
 use crate::names;
 use std::fmt;
 use std::io;
@@ -25,43 +26,6 @@ pub const CUT: u8 = 78;
 /// The signal that says that nobody reads the output.
 const SIGPIPE: u8 = 13;
 
-/// The causes of a refusal in words; the cause with number n is the n-th.
-pub const CAUSES: [&str; 26] = [
-    "header field past the image",
-    "Wii magic",
-    "not GameCube magic",
-    "FST offset below 0x440, disc end above 2^32 - 1, table end past it, or image shorter than it",
-    "entry past the table",
-    "kind above 1",
-    "root a file",
-    "last text unended",
-    "limit or memory",
-    "next at or before its entry, past the count or past its parent's next",
-    "name offset at or past the texts' end",
-    "name byte",
-    "unsafe or empty name",
-    "used regions overlap or pass the disc end",
-    "no such entry",
-    "file wanted",
-    "directory wanted",
-    "not found",
-    "name exists",
-    "move overlaps itself",
-    "no space",
-    "alignment no power of two",
-    "seek",
-    "DOL header past the image, or a sum above 2^32 - 1",
-    "used bytes or edit count would leave 0 to 2^32 - 1",
-    "new table above the maximum",
-];
-
-pub fn cause(number: u32) -> &'static str {
-    match number {
-        0 => "unknown number",
-        n => CAUSES.get(n as usize - 1).copied().unwrap_or("unknown number"),
-    }
-}
-
 #[derive(Debug)]
 pub enum Failure {
     /// The proved library said no. `what` is what it was asked about, `detail` more than the number,
@@ -75,7 +39,8 @@ pub enum Failure {
     Pipe,
 }
 
-/// A table that an edit would write: its size before and after, the maximum, and by how many bytes it is above.
+/// A table that an edit would write: its size before and after, the maximum, and by how many bytes it is
+/// above.
 #[derive(Debug, Clone, Copy)]
 pub struct Above {
     pub before: u64,
@@ -88,7 +53,7 @@ pub type Outcome<T> = Result<T, Failure>;
 
 impl Failure {
     pub fn refused(number: u32, what: impl Into<String>) -> Failure {
-        if number == 0 || number as usize > CAUSES.len() {
+        if cause(number).is_none() {
             let text = format!("libcounter answered {number}, which is no number of a cause");
             return Failure::Error { status: INTERNAL, text };
         }
@@ -159,7 +124,7 @@ impl fmt::Display for Failure {
     fn fmt(&self, f: &mut fmt::Formatter<'_>) -> fmt::Result {
         match self {
             Failure::Refused { number, what, detail, .. } => {
-                write!(f, "{what}: refused {number}: {}", cause(*number))?;
+                write!(f, "{what}: refused {number}: {}", cause(*number).unwrap_or_default())?;
                 match detail {
                     Some(more) => write!(f, " ({more})"),
                     None => Ok(()),

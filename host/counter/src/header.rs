@@ -33,10 +33,10 @@ pub const FIELDS: [Field; 21] = [
     field("debug offset", "debug_offset", 0x400, 4),
     field("debug address", "debug_address", 0x404, 4),
     Field { shown: "unused at 0x408", ..field("unused 0x408", "unused_408", 0x408, 0x18) },
-    field("DOL offset", "dol_offset", 0x420, 4),
-    field("FST offset", "fst_offset", 0x424, 4),
-    field(FST_SIZE, "fst_size", 0x428, 4),
-    field("FST maximum", "fst_maximum", 0x42C, 4),
+    field("DOL offset", "dol_offset", DOL_OFFSET, 4),
+    field("FST offset", "fst_offset", FST_OFFSET, 4),
+    field(FST_SIZE, "fst_size", FST_SIZE_AT, 4),
+    field("FST maximum", "fst_maximum", FST_MAXIMUM_AT, 4),
     field("user position", "user_position", 0x430, 4),
     field("user size", "user_size", 0x434, 4),
     field("disc size", "disc_size", 0x438, 4),
@@ -45,6 +45,12 @@ pub const FIELDS: [Field; 21] = [
 
 /// The one field that edits write.
 pub const FST_SIZE: &str = "FST size";
+
+/// Where the numbers stand that are looked at by themselves.
+pub const DOL_OFFSET: usize = 0x420;
+const FST_OFFSET: usize = 0x424;
+pub const FST_SIZE_AT: usize = 0x428;
+pub const FST_MAXIMUM_AT: usize = 0x42C;
 
 impl Field {
     /// The field of that name, whatever the case; where there is none, what there is.
@@ -78,9 +84,16 @@ impl Header {
 
     /// The most bytes that the table may have; 0 states no maximum.
     pub fn fst_maximum(&self) -> u32 {
-        self.word(0x42C)
+        self.word(FST_MAXIMUM_AT)
     }
 
+    /// Where the table begins and ends, as the header has it.
+    pub fn table(&self) -> (u64, u64) {
+        let start = u64::from(self.word(FST_OFFSET));
+        (start, start + u64::from(self.word(FST_SIZE_AT)))
+    }
+
+    /// The same for the disc end, for an image that does not open.
     pub fn disc_end(&self) -> u64 {
         u64::from(self.word(0x434)) + u64::from(self.word(0x438))
     }

@@ -1,7 +1,7 @@
 //! `counter help`, from the table of commands.
 
 use crate::args::{FORMS, Form, GROUPS, Group};
-use crate::failure::CAUSES;
+use crate::cause::CAUSES;
 use std::fmt::Write;
 
 pub const USAGE: &str = "usage: counter COMMAND IMAGE ...   (`counter help` has the commands)\n";
@@ -218,10 +218,12 @@ const FIELDS: &[(&str, &str)] = &[
         "check",
         "status opens entries files disc_end used free fst_size fst_maximum fst_left fst_above fst_rewritten \
          fst_rewritten_above stored_parents[number path path_bytes stored parent] root{name_offset parent} \
-         unused_texts unused_texts_at rewrite_alters_at alike[path path_bytes found found_bytes] notes[...]; stored_parents: folders whose stored parent \
-         is not the one that they are nested in; unused_texts: bytes of the table's texts that no entry uses; \
-         rewrite_alters_at: where a rewrite would begin to alter the table, or null; alike: names that a game which looks up without case does not \
-         find, and what it finds in their place",
+         unused_texts unused_texts_at rewrite_alters_at rewrite_refused \
+         alike[path path_bytes found found_bytes] notes[...]; stored_parents: folders whose stored parent \
+         is not the one that they are nested in; unused_texts: bytes of the table's texts that no entry \
+         uses; rewrite_alters_at: where a rewrite would begin to alter the table, or null; \
+         rewrite_refused: the number for which a limit refuses it, or null; alike: names that a game \
+         which looks up without case does not find, and what it finds in their place",
     ),
     ("compare", COMPARED),
     ("report", COMPARED),
@@ -280,7 +282,8 @@ fn json(forms: &[Form]) -> String {
             "  fst_left: what is left of fst_maximum, or null where that is 0 (no maximum); fst_above: by how many\n\
              \x20 bytes the table is above it, or 0; fst_rewritten: the table's size as an edit writes it, no name\n\
              \x20 shared; fst_rewritten_above: by how many bytes that is above it, or 0 (where it is not 0 every edit\n\
-             \x20 that writes a table is refused); both are null where there is no maximum\n",
+             \x20 that writes a table is refused); both are null where there is no maximum, or where a limit\n\
+             \x20 refuses a rewrite (9)\n",
         );
     }
     if forms.iter().any(|form| ["info", "tree", "free"].contains(&form.name)) {

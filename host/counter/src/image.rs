@@ -5,7 +5,7 @@ use crate::failure::{BUSY, CUT, Failure, INPUT_OUTPUT, NO_INPUT, NOT_ALLOWED, Ou
 use crate::journal;
 use crate::names;
 use crate::os::{self, Access, Mapping};
-use counter_sys::Memory;
+use counter_sys::{MOST_TABLE, MOST_WORDS, Memory};
 use std::fs::{self, File, Metadata, OpenOptions, TryLockError};
 use std::io;
 use std::ops::Range;
@@ -16,6 +16,9 @@ use std::sync::atomic::{AtomicBool, Ordering};
 
 /// How an image without a file is called in what the program says.
 pub const BUILT_IN: &str = "built-in small master";
+
+/// One file `a` of 0x100 bytes at 0x500, the table at 0x440.
+const SMALL_MASTER: &[u8; 0x2000] = include_bytes!("../../../crates/list/stdin");
 
 enum Bytes {
     Mapped { file: File, mapping: Mapping },
@@ -40,7 +43,7 @@ impl Image {
     /// The file at `path`, or without one the built-in small master.
     pub fn read(path: Option<&Path>) -> Outcome<Image> {
         let Some(path) = path else {
-            let bytes = Bytes::BuiltIn(small_master());
+            let bytes = Bytes::BuiltIn(SMALL_MASTER.to_vec());
             return Ok(Image { name: BUILT_IN.into(), path: None, bytes });
         };
         let image = Image::map(path, Access::Read)?;
@@ -250,22 +253,6 @@ pub fn lock(path: &Path, file: &File, access: Access) -> Outcome<()> {
     }
 }
 
-/// The small master: one file `a` of 0x100 bytes at 0x500, the table at 0x440.
-fn small_master() -> Vec<u8> {
-    const TABLE: [u32; 6] = [0x0100_0000, 0, 2, 0, 0x500, 0x100];
-    let mut image = vec![0; 0x2000];
-    let mut put = |at: usize, word: u32| image[at..at + 4].copy_from_slice(&word.to_be_bytes());
-    put(0x1C, 0xC233_9F3D);
-    put(0x424, 0x440);
-    put(0x428, 0x1A);
-    put(0x434, 0x2000);
-    for (i, word) in TABLE.into_iter().enumerate() {
-        put(0x440 + 4 * i, word);
-    }
-    image[0x458] = b'a';
-    image
-}
-
 /// Working memory for every call: enough for the largest table that opens.
 pub struct Desk {
     words: Vec<u32>,
@@ -274,7 +261,7 @@ pub struct Desk {
 
 impl Desk {
     pub fn new() -> Desk {
-        Desk { words: vec![0; 65_544], bytes: vec![0; 2_097_152] }
+        Desk { words: vec![0; MOST_WORDS], bytes: vec![0; MOST_TABLE] }
     }
 
     pub fn lend(&mut self) -> Memory<'_> {

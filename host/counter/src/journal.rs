@@ -10,6 +10,7 @@ use crate::change::{Change, HEADER};
 use crate::disk::{self, On};
 use crate::sum;
 use crate::text::one_line;
+use counter_sys::MOST_TABLE;
 use std::ffi::OsString;
 use std::fs::{self, File, Metadata};
 use std::io;
@@ -24,7 +25,7 @@ const VERSION: u64 = 4;
 const COPIED: &[u8; 8] = b"copied!\n";
 
 /// No journal is longer: two tables of the largest size, a header, and a few numbers.
-const LONGEST: u64 = 2 * (2 << 20) + (64 << 10);
+const LONGEST: u64 = 2 * MOST_TABLE as u64 + (64 << 10);
 
 /// Which file the journal belongs to. The disk's number is left out: it may be another after a
 /// restart.
@@ -43,8 +44,8 @@ impl Owner {
     }
 }
 
-/// The totals record that goes with an edit: its file, the text in it (none if there is no file), and the text
-/// that it gets.
+/// The totals record that goes with an edit: its file, the text in it (none if there is no file), and the
+/// text that it gets.
 #[derive(Debug, Clone, PartialEq, Eq)]
 pub struct Totals {
     pub file: PathBuf,
@@ -113,8 +114,8 @@ pub fn is_there(image: &Path) -> bool {
     fs::metadata(beside(image)).is_ok_and(|told| told.is_file())
 }
 
-/// Whether something else is there, which is no journal and was never one: a folder, a special file, a link that
-/// leads nowhere.
+/// Whether something else is there, which is no journal and was never one: a folder, a special file, a link
+/// that leads nowhere.
 pub fn has_no_place(image: &Path) -> bool {
     fs::symlink_metadata(beside(image)).is_ok() && !is_there(image)
 }
@@ -136,8 +137,8 @@ fn told(path: &Path) -> io::Result<Option<Metadata>> {
     }
 }
 
-/// Why nobody knows whether an edit of the image was cut, where the disk does not tell. A folder that may not be
-/// looked into holds an image that was reached by other ways, and no edit of it could begin.
+/// Why nobody knows whether an edit of the image was cut, where the disk does not tell. A folder that may
+/// not be looked into holds an image that was reached by other ways, and no edit of it could begin.
 pub fn untold(image: &Path) -> Option<io::Error> {
     told(&beside(image)).err().filter(|e| e.kind() != io::ErrorKind::PermissionDenied)
 }
@@ -176,8 +177,8 @@ impl Journal {
         Ok(Journal { image, path, file, end, plan, copied: None, spoiled: false, clip })
     }
 
-    /// The journal beside the image: None, a whole one, or what is wrong with it; an error where the disk does not
-    /// tell whether there is one. For whoever has the image alone.
+    /// The journal beside the image: None, a whole one, or what is wrong with it; an error where the disk
+    /// does not tell whether there is one. For whoever has the image alone.
     pub fn find(image: &Path) -> io::Result<Option<Result<Journal, String>>> {
         let path = beside(image);
         // One that was cut before it had its name: the image was not touched then.
@@ -214,8 +215,8 @@ impl Journal {
         Ok(())
     }
 
-    /// On an error it is still there. A folder that cannot be synced is none: if a power cut brings the journal back,
-    /// it is found then like any other.
+    /// On an error it is still there. A folder that cannot be synced is none: if a power cut brings the
+    /// journal back, it is found then like any other.
     pub fn remove(&self) -> io::Result<()> {
         match disk::remove(On::Journal, &self.path) {
             // Somebody was faster.

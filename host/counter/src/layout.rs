@@ -7,7 +7,7 @@ use crate::image::{Desk, Image};
 use crate::names;
 use crate::program::Program;
 use crate::sha256::Sum;
-use crate::stored::departure;
+use crate::stored::{Departure, departure};
 use crate::text::{one_line, shown};
 use counter_sys::{HEADER_SIZE, Region};
 
@@ -45,9 +45,8 @@ pub struct Layout {
     pub bytes: u64,
     pub disc_end: u32,
     pub fst: (u32, u32),
-    /// Where the table begins to be another than a rewrite of its tree writes, if it is; a manifest's is not
-    /// looked at.
-    pub departure: Option<u64>,
+    /// A manifest's is not looked at.
+    pub departure: Departure,
     pub program: Option<Program>,
     pub free: Vec<Region>,
     pub records: Vec<Record>,
@@ -74,7 +73,7 @@ impl Layout {
             bytes: image.bytes().len() as u64,
             disc_end: disc.opened.disc_end,
             fst: (disc.opened.fst_offset, disc.opened.fst_size),
-            departure: departure(image, disc),
+            departure: departure(image, desk, disc),
             program: Program::read(image, desk, &disc.opened)?,
             free: disc.free.clone(),
             records: records.collect(),

@@ -13,6 +13,7 @@ use crate::maximum::Maximum;
 use crate::names::{self, shown as shown_name};
 use crate::out::say;
 use crate::program::Program;
+use crate::record;
 use crate::stored::Stored;
 use crate::text::{both, counted, grouped, hex, human, label, line, number, shown, size};
 use crate::tree::{free_json, node_fields, region_fields, weights};
@@ -32,8 +33,10 @@ pub fn info(args: &Args) -> Outcome<()> {
     let header = Header::read(image.bytes()).map_err(|n| not_opened(&image, n))?;
     let maximum = Maximum::read(&image, &mut desk, &disc.opened)?;
     let program = Program::read(&image, &mut desk, &disc.opened)?;
+    let largest = record::fresh(&image, &mut desk)?.largest;
     if args.json {
         let mut fields = info_fields(&image, &header, &disc);
+        fields.push(("largest_free", largest.into()));
         fields.extend(maximum.fields());
         fields.push(("program_behind_table", program.is_some_and(|at| at.behind).into()));
         fields.push(("program", program.into()));
@@ -41,6 +44,7 @@ pub fn info(args: &Args) -> Outcome<()> {
         return say(Json::answer(fields).document().as_bytes());
     }
     let mut text = info_text(&image, &header, &disc);
+    line(&mut text, "largest free", size(largest.into()));
     maximum.lines(&mut text);
     line(&mut text, "program", program.map_or("none".into(), |program| program.words()));
     if let Some(banner) = Banner::read(&image, &mut desk, &header) {
@@ -72,7 +76,6 @@ fn info_fields(image: &Image, header: &Header, disc: &Space) -> Vec<(&'static st
     fields.push(("used", disc.opened.used.into()));
     fields.push(("free", disc.free_bytes().into()));
     fields.push(("free_regions", disc.free.len().into()));
-    fields.push(("largest_free", disc.largest().into()));
     fields
 }
 
@@ -95,7 +98,6 @@ fn info_text(image: &Image, header: &Header, disc: &Space) -> String {
     line(&mut out, "used", size(disc.opened.used.into()));
     let regions = counted(disc.free.len(), "region", "regions");
     line(&mut out, "free", format!("{} in {regions}", size(disc.free_bytes())));
-    line(&mut out, "largest free", size(disc.largest().into()));
     out
 }
 
@@ -275,7 +277,7 @@ pub fn check(args: &Args) -> Outcome<()> {
     let (image, mut desk, disc) = opened(args.image.as_deref())?;
     let space = Space::read(&image, &mut desk)?;
     let maximum = Maximum::read(&image, &mut desk, &disc.opened)?;
-    let stored = Stored::read(&image, &disc);
+    let stored = Stored::read(&image, &mut desk, &disc);
     let mut notes: Vec<String> = maximum.note().into_iter().collect();
     notes.extend(trouble::nkit(image.bytes()).map(String::from));
     notes.extend(stored.notes());

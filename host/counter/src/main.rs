@@ -10,6 +10,7 @@ mod area;
 mod args;
 mod banner;
 mod call;
+mod cause;
 mod change;
 mod clip;
 mod compare;
@@ -22,6 +23,8 @@ mod edited;
 mod failure;
 mod given;
 mod header;
+#[cfg(test)]
+mod headers;
 mod help;
 mod image;
 mod journal;
@@ -56,7 +59,8 @@ mod trouble;
 mod version;
 
 use args::{Args, FORMS, Form};
-use failure::{Failure, Outcome, cause};
+use cause::cause;
+use failure::{Failure, Outcome};
 use json::Json;
 use out::say;
 use std::env;

@@ -4,7 +4,7 @@ use crate::args::Args;
 use crate::digests::{self, digests};
 use crate::disc::opened;
 use crate::failure::{DATA, Failure, INPUT_OUTPUT, Outcome};
-use crate::header::{FIELDS, FST_SIZE, Field};
+use crate::header::{FIELDS, FST_MAXIMUM_AT, FST_SIZE, FST_SIZE_AT, Field};
 use crate::image::Image;
 use crate::layout::{Layout, Record};
 use crate::names;
@@ -13,6 +13,7 @@ use crate::program::Program;
 use crate::progress::Progress;
 use crate::save::{save, vacant};
 use crate::sha256::{self, LANES, Sha256, Sum, hex};
+use crate::stored::Departure;
 use crate::text::{counted, one_line};
 use counter_sys::{HEADER_SIZE, Region};
 use std::fs::{self, File};
@@ -75,8 +76,13 @@ impl Manifest {
 }
 
 /// The header in a manifest of the first version.
-pub const OLD_HEADER: [(&str, u64, u64); 2] =
-    [("header up to the table's size", 0, 0x428), ("header behind the table's size", 0x42C, 0x14)];
+pub const OLD_HEADER: [(&str, u64, u64); 2] = {
+    let (at, behind, end) = (FST_SIZE_AT as u64, FST_MAXIMUM_AT as u64, HEADER_SIZE as u64);
+    [
+        ("header up to the table's size", 0, at),
+        ("header behind the table's size", behind, end - behind),
+    ]
+};
 
 /// How a field of the header is called there.
 pub fn of_field(field: &Field) -> String {
@@ -126,8 +132,8 @@ pub fn hash(args: &Args) -> Outcome<()> {
 pub fn sums(bytes: &[u8], spans: &[(u64, u64)], progress: &Progress) -> Vec<Sum> {
     let mut order: Vec<usize> = (0..spans.len()).collect();
     order.sort_by_key(|&i| u64::MAX - spans[i].1);
-    // The first is most often the whole image, as long as all others together. Beside it go those that are too long to
-    // find seven others, one after the other; the rest go side by side.
+    // The first is most often the whole image, as long as all others together. Beside it go those that are
+    // too long to find seven others, one after the other; the rest go side by side.
     let beside = if sha256::has_lanes() { 3 } else { 0 };
     let long = |&&i: &&usize| spans[i].1 > spans[order[0]].1 / 4;
     let (first, others) = order.split_at(order.iter().take(1 + beside).take_while(long).count());
@@ -382,7 +388,7 @@ impl Reader {
             bytes: 0,
             disc_end: 0,
             fst: (0, 0),
-            departure: None,
+            departure: Departure::None,
             program: None,
             free: Vec::new(),
             records: vec![root],

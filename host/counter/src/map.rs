@@ -10,6 +10,7 @@ use crate::names;
 use crate::out::say;
 use crate::save::save;
 use crate::text::{self, counted, escape, grouped, human};
+use counter_sys::HEADER_SIZE;
 use std::collections::{BTreeMap, HashSet};
 use std::fmt::Write as _;
 
@@ -232,14 +233,15 @@ fn pieces(layout: &Layout, folders: &Folders, marked: &HashSet<u32>) -> Vec<Piec
         let marked = marked.contains(&record.number);
         add(What::File, &record.path, offset.into(), size.into(), colour, marked);
     }
-    add(What::System, b"header", 0, 0x440, HEADER, false);
+    let header = HEADER_SIZE as u64;
+    add(What::System, b"header", 0, header, HEADER, false);
     // The system area lies around a program before the table.
-    let fst = u64::from(layout.fst.0).max(0x440);
+    let fst = u64::from(layout.fst.0).max(header);
     let (start, size) = layout
         .program
         .map_or((fst, 0), |program| (program.place.offset.into(), u64::from(program.place.size)));
-    let (from, until) = (start.clamp(0x440, fst), (start + size).clamp(0x440, fst));
-    add(What::System, b"system area", 0x440, from - 0x440, SYSTEM, false);
+    let (from, until) = (start.clamp(header, fst), (start + size).clamp(header, fst));
+    add(What::System, b"system area", header, from - header, SYSTEM, false);
     add(What::System, b"system area", until, fst - until, SYSTEM, false);
     add(What::Program, b"program", start, size, PROGRAM, false);
     add(What::Table, b"table", layout.fst.0.into(), layout.fst.1.into(), TABLE, false);

@@ -2,7 +2,7 @@
 //! place in memory. An edit that would write a larger one is refused (26); an image that has one opens.
 
 use crate::call::Call;
-use crate::disc::{Disc, entries, not_opened, written_size};
+use crate::disc::{not_opened, table_anew};
 use crate::failure::{Above, Failure, Outcome};
 use crate::header::Header;
 use crate::image::{Desk, Image};
@@ -19,23 +19,18 @@ pub struct Maximum {
     pub stated: u64,
     /// The table's as it is.
     table: u64,
-    /// The table's as an edit writes it, each name by itself; not looked for where no maximum is stated.
+    /// The table's as an edit writes it, each name by itself; not looked for where no maximum is stated, and
+    /// none where a limit refuses it (9).
     rewritten: Option<u64>,
 }
 
 impl Maximum {
-    /// Of a disc whose header states this.
-    pub fn of(stated: u32, disc: &Disc) -> Maximum {
-        let rewritten = (stated > 0).then(|| written_size(&disc.nodes));
-        Maximum { stated: stated.into(), table: disc.opened.fst_size.into(), rewritten }
-    }
-
     pub fn read(image: &Image, desk: &mut Desk, opened: &Opened) -> Outcome<Maximum> {
         let header = Header::read(image.bytes()).map_err(|n| not_opened(image, n))?;
         let (stated, table) = (header.fst_maximum().into(), opened.fst_size.into());
         let rewritten = match stated {
             0 => None,
-            _ => Some(written_size(&entries(image, desk)?.1)),
+            _ => table_anew(image, desk).ok().map(|anew| anew.len() as u64),
         };
         Ok(Maximum { stated, table, rewritten })
     }
@@ -80,10 +75,13 @@ impl Maximum {
     /// What an editor should know before the first edit.
     pub fn note(&self) -> Option<String> {
         const ALL_REFUSED: &str = "every edit that writes a table is refused";
-        let (table, rewritten) = (self.table, self.rewritten?);
+        let table = self.table;
         let told = |size| {
             let [above, most] = [self.above(size), self.stated].map(grouped);
             format!("{}, {above} above the maximum of {most} that the header states", bytes(size))
+        };
+        let Some(rewritten) = self.rewritten else {
+            return (self.above(table) > 0).then(|| format!("the table has {}", told(table)));
         };
         match (self.above(table), self.above(rewritten)) {
             (0, 0) => None,
@@ -115,11 +113,15 @@ fn bytes(number: u64) -> String {
 
 // Refusals --------------------------------------------------------------------------------
 
-/// The refusal with 26 of an edit that would write a table of `after` bytes, with what it is about.
-pub fn explained(refusal: Failure, before: &Disc, maximum: u64, after: u64) -> Failure {
+/// The refusal with 26 of an edit, with what it is about: the sizes of the table as it is, of the same
+/// written anew, and of the one that the edit would write.
+pub fn explained(
+    refusal: Failure,
+    (table, rewritten, after): (u64, u64, u64),
+    maximum: u64,
+) -> Failure {
     const MORE: &str = "if the publisher allows it, `counter maximum IMAGE N` states more, or 0 for no \
                         maximum, and the line `header: FST maximum` of LIST gives leave for it";
-    let (table, rewritten) = (before.opened.fst_size.into(), written_size(&before.nodes));
     let shared = if rewritten > table { ", with no name shared," } else { "" };
     let room = match maximum.checked_sub(rewritten) {
         None => format!("so is every table that an edit would write; {MORE}"),

@@ -1,10 +1,11 @@
 //! Names and paths: their bytes in an image, and the text that people read and type.
 //!
-//! An image has them in Shift-JIS (CP932). A text is cut into units from its start: a lead byte with its
-//! trail byte is one unit, any other byte is one by itself. The characters are those of the system's iconv;
-//! nothing else in the program knows the code.
+//! An image has them in Shift-JIS (CP932). How a text is cut into units, and which of them a name may hold,
+//! the library tells; the characters are those of the system's iconv. Nothing else in the program knows the
+//! code.
 
 use crate::text::{is_obeyed, one_line, wide};
+use counter_sys as counter;
 use std::collections::HashMap;
 use std::env;
 use std::ffi::{CStr, OsStr, c_char, c_int, c_void};
@@ -16,24 +17,15 @@ use std::sync::atomic::{AtomicBool, Ordering};
 
 // Units -----------------------------------------------------------------------------------
 
-fn is_lead(byte: u8) -> bool {
-    matches!(byte, 0x81..=0x9F | 0xE0..=0xFC)
-}
-
-fn is_trail(byte: u8) -> bool {
-    matches!(byte, 0x40..=0x7E | 0x80..=0xFC)
-}
-
-/// The first unit, and what follows it.
+/// The first unit, a pair or a single byte, and what follows it.
 fn unit(bytes: &[u8]) -> Option<(&[u8], &[u8])> {
-    match *bytes {
-        [] => None,
-        [lead, trail, ..] if is_lead(lead) && is_trail(trail) => Some(bytes.split_at(2)),
-        _ => Some(bytes.split_at(1)),
+    match counter::unit(bytes).0 {
+        0 => None,
+        len => Some(bytes.split_at(len)),
     }
 }
 
-pub fn units(mut bytes: &[u8]) -> impl Iterator<Item = &[u8]> {
+fn units(mut bytes: &[u8]) -> impl Iterator<Item = &[u8]> {
     std::iter::from_fn(move || {
         let (unit, rest) = unit(bytes)?;
         bytes = rest;
@@ -41,49 +33,50 @@ pub fn units(mut bytes: &[u8]) -> impl Iterator<Item = &[u8]> {
     })
 }
 
-/// A path's parts, as lookup cuts it: at each `/` and `\` that is a unit of its own.
-pub fn parts(path: &[u8]) -> Vec<&[u8]> {
-    let (mut parts, mut start, mut at) = (Vec::new(), 0, 0);
-    for unit in units(path) {
-        if matches!(unit, b"/" | b"\\") {
-            parts.push(&path[start..at]);
-            start = at + 1;
+fn is_pair(lead: u8, trail: u8) -> bool {
+    counter::unit(&[lead, trail]).0 == 2
+}
+
+/// Whether the byte begins a pair where a pair's second byte follows.
+fn is_lead(byte: u8) -> bool {
+    is_pair(byte, b'@')
+}
+
+/// The first unit for which a name is refused with the number.
+fn refused_with(name: &[u8], number: u32) -> Option<&[u8]> {
+    units(name).find(|unit| counter::unit(unit).1 == number)
+}
+
+/// A path's parts, as lookup cuts it.
+pub fn parts(mut path: &[u8]) -> Vec<&[u8]> {
+    let mut parts = Vec::new();
+    loop {
+        let (part, rest) = path.split_at(counter::component(path));
+        parts.push(part);
+        match rest {
+            [_, behind @ ..] => path = behind,
+            [] => return parts,
         }
-        at += unit.len();
     }
-    parts.push(&path[start..]);
-    parts
-}
-
-/// Whether a name may hold the unit (12 where it may not).
-pub fn is_fit(unit: &[u8]) -> bool {
-    unit.len() == 2 || matches!(unit, [b' '..=b'~' | 0xA1..=0xDF])
-}
-
-/// Whether the unit makes a name unsafe (13).
-pub fn is_unsafe(unit: &[u8]) -> bool {
-    matches!(unit, b"/" | b"\\" | b":")
 }
 
 /// Whether an entry of an image that opens can be called so.
 pub fn is_name(name: &[u8]) -> bool {
-    !matches!(name, b"" | b"." | b"..") && units(name).all(|unit| is_fit(unit) && !is_unsafe(unit))
+    counter::name(name) == 0
 }
 
 /// What is wrong with a name, or with a path's parts, that the library refused with 12 or 13.
 pub fn trouble(name: &[u8], number: u32) -> Option<String> {
     match number {
-        12 => match units(name).find(|unit| !is_fit(unit))? {
-            [lead] if is_lead(*lead) => {
+        12 => match *refused_with(name, 12)? {
+            [lead] if is_lead(lead) => {
                 Some(format!("a lead byte {lead:#x} without its trail byte"))
             }
-            unit => Some(format!("the byte {:#04x}", unit[0])),
+            [byte, ..] => Some(format!("the byte {byte:#04x}")),
+            [] => None,
         },
         13 if name.is_empty() => Some("it is empty".into()),
-        13 => {
-            let unit = units(name).find(|unit| is_unsafe(unit));
-            unit.map(|unit| format!("it holds {}", unit[0] as char))
-        }
+        13 => refused_with(name, 13).map(|unit| format!("it holds {}", unit[0] as char)),
         _ => None,
     }
 }
@@ -180,6 +173,11 @@ impl Drop for Code {
     }
 }
 
+/// Whether the bytes are one unit, and one that a name may hold.
+fn is_unit(bytes: &[u8]) -> bool {
+    counter::unit(bytes) == (bytes.len(), 0)
+}
+
 /// The unit's character, if it is from 0xA1 on and has one of its own: some pairs share one, which then
 /// stands for the pair that it is turned back into. None has one where the system has no CP932.
 fn character(unit: &[u8]) -> Option<char> {
@@ -208,10 +206,11 @@ fn characters() -> Vec<Option<char>> {
         let letter = letters.next().filter(|_| letters.next().is_none())?;
         (write.turn(&text)? == unit).then_some(letter)
     };
-    let of = |fit: fn(u8) -> bool| (0..=0xFF).filter(move |byte| fit(*byte));
-    let pairs = of(is_lead).flat_map(|lead| of(is_trail).map(move |trail| vec![lead, trail]));
-    for unit in pairs.chain((0xA1..=0xDF).map(|byte| vec![byte])) {
-        found[place(&unit)] = one(&unit);
+    for pair in (0..=u16::MAX).map(u16::to_be_bytes).filter(|pair| is_unit(pair)) {
+        found[place(&pair)] = one(&pair);
+    }
+    for single in (0x80..=u8::MAX).map(|byte| [byte]).filter(|byte| is_unit(byte)) {
+        found[place(&single)] = one(&single);
     }
     found
 }
@@ -225,7 +224,7 @@ fn bytes_of(letter: char) -> Result<Vec<u8>, String> {
         format!("{} {why}", named())
     })?;
     let bytes = code.turn(letter.encode_utf8(&mut [0; 4]).as_bytes());
-    let one = |bytes: &Vec<u8>| is_fit(bytes) && bytes[0] >= 0x80 && units(bytes).count() == 1;
+    let one = |bytes: &Vec<u8>| is_unit(bytes) && !bytes.is_ascii();
     bytes.filter(one).ok_or_else(|| {
         format!("{} has no bytes in Shift-JIS (CP932), in which an image has its names", named())
     })
@@ -372,8 +371,8 @@ pub fn for_terminal(words: &str) -> String {
     out
 }
 
-/// The name of a file of the system, for what is said: what of it is no UTF-8 or would be obeyed is escaped, and
-/// on a terminal without UTF-8 every byte from 0x80 on.
+/// The name of a file of the system, for what is said: what of it is no UTF-8 or would be obeyed is
+/// escaped, and on a terminal without UTF-8 every byte from 0x80 on.
 pub fn file(name: impl AsRef<OsStr>) -> String {
     let mut out = String::new();
     for chunk in name.as_ref().as_bytes().utf8_chunks() {
@@ -413,25 +412,31 @@ pub fn read(text: &[u8]) -> Result<Vec<u8>, String> {
 #[derive(Default)]
 struct Taken {
     bytes: Vec<u8>,
-    /// The last one is a lead byte that has no trail byte yet.
-    open: bool,
+    /// The last one, if it is a lead byte that has no trail byte yet.
+    lead: Option<u8>,
 }
 
 impl Taken {
-    /// Takes what was typed as it is. Of a lead byte that was given as `\xHH` it is the trail byte where it can
-    /// be; but a character from 0x80 on is one by itself, and not half of it is meant.
+    /// Takes what was typed as it is. Of a lead byte that was given as `\xHH` it is the trail byte where it
+    /// can be; but a character from 0x80 on is one by itself, and not half of it is meant.
     fn typed(&mut self, bytes: &[u8]) -> Result<(), String> {
-        if self.open && bytes[0] >= 0x80 && is_trail(bytes[0]) {
-            let lead = self.bytes[self.bytes.len() - 1];
+        if let Some(lead) = self.lead
+            && bytes[0] >= 0x80
+            && is_pair(lead, bytes[0])
+        {
             return Err(format!("\\x{lead:02x} is a lead byte: give its trail byte as \\xHH too"));
         }
         self.push(bytes);
         Ok(())
     }
 
+    fn is_trail(&self, byte: u8) -> bool {
+        self.lead.is_some_and(|lead| is_pair(lead, byte))
+    }
+
     fn push(&mut self, bytes: &[u8]) {
         for &byte in bytes {
-            self.open = !(self.open && is_trail(byte)) && is_lead(byte);
+            self.lead = (!self.is_trail(byte) && is_lead(byte)).then_some(byte);
             self.bytes.push(byte);
         }
     }
@@ -443,7 +448,7 @@ impl Taken {
         let [b'\\', b'x', high, low, ..] = *text else { return false };
         let (Some(high), Some(low)) = (digit(high), digit(low)) else { return false };
         let byte = (16 * high + low) as u8;
-        let meant = byte >= 0x80 || self.open && is_trail(byte);
+        let meant = byte >= 0x80 || self.is_trail(byte);
         if meant {
             self.push(&[byte]);
         }

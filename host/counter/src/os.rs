@@ -230,8 +230,8 @@ pub fn punch(file: &File, at: u64, len: u64) -> io::Result<()> {
     }
 }
 
-/// Waits until the bytes of a part of a file have left the memory. That they are on the disk for good only a sync
-/// says; but an error that is told here is told nowhere else.
+/// Waits until the bytes of a part of a file have left the memory. That they are on the disk for good only
+/// a sync says; but an error that is told here is told nowhere else.
 pub fn write_out(file: &File, at: u64, len: u64) -> io::Result<()> {
     let fd = file.as_raw_fd();
     match answer(unsafe { sync_file_range(fd, at as i64, len as i64, WRITE_AND_WAIT) }) {
@@ -280,5 +280,31 @@ impl Drop for Mapping {
         if self.len != 0 {
             unsafe { munmap(self.start, self.len) };
         }
+    }
+}
+
+#[cfg(test)]
+mod tests {
+    use super::*;
+    use crate::headers::{hold, of_c};
+
+    #[test]
+    fn the_numbers_are_the_systems() {
+        let headers = ["errno.h", "fcntl.h", "linux/falloc.h", "stdio.h", "sys/mman.h", "unistd.h"];
+        hold(
+            &headers,
+            &of_c!(PROT_READ PROT_WRITE MAP_SHARED MAP_PRIVATE MAP_ANONYMOUS MAP_NORESERVE MAP_FIXED MS_SYNC
+                MADV_DONTNEED MFD_CLOEXEC AT_FDCWD RENAME_NOREPLACE ENOSYS EINVAL ESPIPE EROFS O_NONBLOCK),
+        );
+        const HOLE: &str = "FALLOC_FL_PUNCH_HOLE | FALLOC_FL_KEEP_SIZE";
+        const WAIT: &str =
+            "SYNC_FILE_RANGE_WAIT_BEFORE | SYNC_FILE_RANGE_WRITE | SYNC_FILE_RANGE_WAIT_AFTER";
+        let facts = [
+            (HOLE, PUNCH_HOLE_KEEP_SIZE.into()),
+            (WAIT, WRITE_AND_WAIT.into()),
+            ("R_OK | W_OK | X_OK", READ_WRITE_SEARCH.into()),
+            ("sizeof(off_t)", size_of::<i64>() as i128),
+        ];
+        hold(&headers, &facts);
     }
 }

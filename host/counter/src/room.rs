@@ -28,6 +28,9 @@ struct Statvfs {
     rest: [u64; 16],
 }
 
+/// `struct statfs` begins with the file system's magic number; the rest is room.
+type Statfs = [u64; 32];
+
 #[repr(C)]
 #[derive(Clone, Copy)]
 struct Extent {
@@ -53,7 +56,7 @@ struct Extents {
 unsafe extern "C" {
     fn lseek(fd: i32, offset: i64, whence: i32) -> i64;
     fn fstatvfs(fd: i32, buf: *mut Statvfs) -> i32;
-    fn fstatfs(fd: i32, buf: *mut u64) -> i32;
+    fn fstatfs(fd: i32, buf: *mut Statfs) -> i32;
     fn ioctl(fd: i32, request: u64, ...) -> i32;
 }
 
@@ -112,8 +115,8 @@ pub fn shared(file: &File, span: Range<u64>) -> u64 {
 
 /// Whether the file system writes every block to a new place.
 pub fn copies_on_write(file: &File) -> bool {
-    let mut told = [0; 32];
-    match unsafe { fstatfs(file.as_raw_fd(), told.as_mut_ptr()) } {
+    let mut told: Statfs = [0; 32];
+    match unsafe { fstatfs(file.as_raw_fd(), &mut told) } {
         0 => COPY_ON_WRITE.contains(&(told[0] as u32)),
         _ => false,
     }
@@ -132,5 +135,63 @@ pub fn left(file: &File) -> Option<u64> {
     match unsafe { fstatvfs(file.as_raw_fd(), &mut told) } {
         0 => told.available.checked_mul(told.fragment_size),
         _ => None,
+    }
+}
+
+#[cfg(test)]
+mod tests {
+    use super::*;
+    use crate::headers::{hold, of_c};
+    use std::mem::offset_of;
+
+    #[test]
+    fn numbers_and_layouts_are_the_systems() {
+        let headers = [
+            "errno.h",
+            "linux/fiemap.h",
+            "linux/fs.h",
+            "linux/magic.h",
+            "sys/statfs.h",
+            "sys/statvfs.h",
+            "unistd.h",
+        ];
+        hold(&headers, &of_c!(SEEK_DATA SEEK_HOLE ENXIO));
+        macro_rules! at {
+            ($whole:ident $($field:ident $name:literal)*) => {
+                [$((concat!("offsetof(struct ", $name, ")"), offset_of!($whole, $field) as i128)),*]
+            };
+        }
+        hold(
+            &headers,
+            &at!(Statvfs block_size "statvfs, f_bsize" fragment_size "statvfs, f_frsize"
+                blocks "statvfs, f_blocks" free "statvfs, f_bfree" available "statvfs, f_bavail"),
+        );
+        hold(
+            &headers,
+            &at!(Extent logical "fiemap_extent, fe_logical" physical "fiemap_extent, fe_physical"
+                length "fiemap_extent, fe_length" reserved "fiemap_extent, fe_reserved64"
+                flags "fiemap_extent, fe_flags" more "fiemap_extent, fe_reserved"),
+        );
+        hold(
+            &headers,
+            &at!(Extents start "fiemap, fm_start" length "fiemap, fm_length" flags "fiemap, fm_flags"
+                mapped "fiemap, fm_mapped_extents" count "fiemap, fm_extent_count"
+                reserved "fiemap, fm_reserved" extents "fiemap, fm_extents"),
+        );
+        let facts = [
+            ("FS_IOC_FIEMAP", FIEMAP.into()),
+            ("FIEMAP_EXTENT_SHARED", SHARED.into()),
+            ("BTRFS_SUPER_MAGIC", COPY_ON_WRITE[0].into()),
+            ("F2FS_SUPER_MAGIC", COPY_ON_WRITE[3].into()),
+            ("NILFS_SUPER_MAGIC", COPY_ON_WRITE[4].into()),
+            ("sizeof(struct fiemap_extent)", size_of::<Extent>() as i128),
+            ("sizeof(struct statvfs) <= sizeof(long [21])", 1),
+            ("sizeof(long [21])", size_of::<Statvfs>() as i128),
+            ("sizeof(struct statfs) <= sizeof(long [32])", 1),
+            ("sizeof(long [32])", size_of::<Statfs>() as i128),
+            ("offsetof(struct statfs, f_type)", 0),
+            ("sizeof(((struct statfs *)0)->f_type)", size_of::<u64>() as i128),
+        ];
+        hold(&headers, &facts);
     }
 }

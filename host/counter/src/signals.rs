@@ -59,8 +59,8 @@ unsafe extern "C" {
 /// Those that people send.
 const SENT: [i32; 4] = [SIGHUP, SIGINT, SIGQUIT, SIGTERM];
 
-/// How far an edit is: nothing was written; nothing but free space, so that it can be given up; it is finished
-/// whatever comes; it is given up.
+/// How far an edit is: nothing was written; nothing but free space, so that it can be given up; it is
+/// finished whatever comes; it is given up.
 const READING: u8 = 0;
 const FREE: u8 = 1;
 const FOR_GOOD: u8 = 2;
@@ -110,8 +110,8 @@ fn tell(words: Arguments) {
     unsafe { write(2, text.as_ptr(), text.len() - left) };
 }
 
-/// While the image is written or something else that must be whole is done, the signal is noted, and what becomes
-/// of it is said at once. Otherwise it ends the program.
+/// While the image is written or something else that must be whole is done, the signal is noted, and what
+/// becomes of it is said at once. Otherwise it ends the program.
 extern "C" fn caught(number: i32) {
     if STAGE.load(Ordering::SeqCst) != READING {
         noted(number);
@@ -175,8 +175,8 @@ fn stop(number: i32) {
     }
 }
 
-/// A mapped page could not be had, and there is nothing to go back to. In the midst of an edit the
-/// program starts anew as `recover`, which writes without a mapping. Before there is a journal nothing was written.
+/// A mapped page could not be had, and there is nothing to go back to. In the midst of an edit the program
+/// starts anew as `recover`, which writes without a mapping. Before there is a journal nothing was written.
 extern "C" fn cut_off(_: i32) {
     let rescue = RESCUE.load(Ordering::SeqCst);
     let writing = match STAGE.load(Ordering::SeqCst) {
@@ -217,9 +217,9 @@ pub fn catch_signals() {
     }
 }
 
-/// From here on the image is written: every signal waits for the end, but for the one that a failing
-/// page sends. Those that people send are answered. An edit that writes to free space first can be given up until
-/// `no_way_back`; one that a signal came before is given up at once.
+/// From here on the image is written: every signal waits for the end, but for the one that a failing page
+/// sends. Those that people send are answered. An edit that writes to free space first can be given up
+/// until `no_way_back`; one that a signal came before is given up at once.
 pub fn begin_writing(free_space_first: bool) {
     let _ = BEGUN.set(Instant::now());
     BEFORE.fetch_add(now(), Ordering::SeqCst);
@@ -329,4 +329,26 @@ pub fn end_by(number: i32) -> i32 {
 /// As if a mapped page could not be had; for a test.
 pub fn lose_page() {
     unsafe { raise(SIGBUS) };
+}
+
+#[cfg(test)]
+mod tests {
+    use super::*;
+    use crate::headers::{hold, of_c};
+
+    #[test]
+    fn the_numbers_are_the_systems() {
+        hold(
+            &["signal.h"],
+            &of_c!(SIGHUP SIGINT SIGQUIT SIGBUS SIGTERM SIGXFSZ SIGPIPE SIG_BLOCK SIG_UNBLOCK),
+        );
+        let harmless = ["CHLD", "CONT", "STOP", "TSTP", "TTIN", "TTOU", "URG", "WINCH"]
+            .map(|name| format!("SIG{name}"));
+        let harmless = harmless.iter().zip(HARMLESS).map(|(name, is)| (name.as_str(), is.into()));
+        let mut facts: Vec<(&str, i128)> = harmless.collect();
+        facts.push(("(size_t)SIG_DFL", SIG_DFL as i128));
+        facts.push(("(size_t)SIG_IGN", SIG_IGN as i128));
+        facts.push(("sizeof(sigset_t)", size_of::<Set>() as i128));
+        hold(&["signal.h"], &facts);
+    }
 }

@@ -1,38 +1,15 @@
 //! The table as it is stored, held against what a rewrite of its tree writes: opening goes by the nesting, so
 //! stored parents, name offsets and texts that no entry uses may be anything.
 
-use crate::disc::{Disc, Kind, Node};
-use crate::image::Image;
+use crate::cause::cause;
+use crate::disc::{Disc, Node, table_anew};
+use crate::image::{Desk, Image};
 use crate::json::{self, Json};
 use crate::names;
 use crate::text::counted;
 
 /// Bytes of an entry.
 const ENTRY: usize = 12;
-
-/// What a rewrite of this tree writes, up to `most` bytes of it: in preorder, the root without a name, each
-/// name by itself.
-fn rewritten(image: &Image, nodes: &[Node], most: usize) -> Vec<u8> {
-    let mut out = Vec::new();
-    let mut text = 0;
-    for node in nodes {
-        let (kind, second, third) = match node.kind {
-            Kind::File { offset, size } => (0, offset, size),
-            Kind::Directory { next } => (1 << 24, node.parent, next),
-        };
-        let first = kind | (text & 0xFF_FFFF) as u32;
-        out.extend([first, second, third].map(u32::to_be_bytes).as_flattened());
-        text += if node.number == 0 { 0 } else { node.stored_name(image).len() as u64 + 1 };
-    }
-    for node in &nodes[1..] {
-        if out.len() >= most {
-            break;
-        }
-        out.extend(node.stored_name(image));
-        out.push(0);
-    }
-    out
-}
 
 fn table<'a>(image: &'a Image, disc: &Disc) -> &'a [u8] {
     let (fst, size) = (disc.opened.fst_offset as usize, disc.opened.fst_size as usize);
@@ -46,14 +23,23 @@ pub fn first_difference(a: &[u8], b: &[u8]) -> Option<usize> {
     at.or((a.len() != b.len()).then_some(common))
 }
 
-/// Where in the image the table begins to be another than a rewrite of its tree writes; None where it is
-/// exactly that.
-pub fn departure(image: &Image, disc: &Disc) -> Option<u64> {
-    let table = table(image, disc);
-    let anew = rewritten(image, &disc.nodes, table.len() + 1);
-    // What goes on behind the table's end makes one difference, whatever it is.
-    let anew = &anew[..anew.len().min(table.len() + 1)];
-    first_difference(table, anew).map(|at| u64::from(disc.opened.fst_offset) + at as u64)
+/// Where in the image the table begins to be another than a rewrite of its tree writes.
+#[derive(Clone, Copy, PartialEq, Eq)]
+pub enum Departure {
+    /// It is exactly that.
+    None,
+    At(u64),
+    /// No rewrite writes one: a limit refuses it (9).
+    Refused(u32),
+}
+
+pub fn departure(image: &Image, desk: &mut Desk, disc: &Disc) -> Departure {
+    let at = table_anew(image, desk).map(|anew| first_difference(table(image, disc), &anew));
+    match at {
+        Ok(None) => Departure::None,
+        Ok(Some(at)) => Departure::At(u64::from(disc.opened.fst_offset) + at as u64),
+        Err(number) => Departure::Refused(number),
+    }
 }
 
 /// What lies at a place of a table that begins at `fst`.
@@ -93,12 +79,13 @@ pub struct Stored {
     root: (u32, u32),
     /// Texts that no entry uses: how many bytes, where the first is, and whether all are zero.
     unused: Option<(u64, u64, bool)>,
-    /// Where a rewrite would begin to alter the table, and what lies there.
-    departure: Option<(u64, String)>,
+    departure: Departure,
+    /// What lies there.
+    what: String,
 }
 
 impl Stored {
-    pub fn read(image: &Image, disc: &Disc) -> Stored {
+    pub fn read(image: &Image, desk: &mut Desk, disc: &Disc) -> Stored {
         let table = table(image, disc);
         let fst = u64::from(disc.opened.fst_offset);
         let stored = |node: &Node| word(table, ENTRY * node.number as usize + 4);
@@ -106,12 +93,17 @@ impl Stored {
         let wrong = folders.filter(|node| stored(node) != node.parent);
         let parents =
             wrong.map(|node| (node.number, node.path.clone(), stored(node), node.parent)).collect();
-        let departure = departure(image, disc).map(|at| (at, what_lies_at(at, fst, table)));
+        let departure = departure(image, desk, disc);
+        let what = match departure {
+            Departure::At(at) => what_lies_at(at, fst, table),
+            _ => String::new(),
+        };
         Stored {
             parents,
             root: (word(table, 0) & 0xFF_FFFF, word(table, 4)),
             unused: unused(image, disc, table),
             departure,
+            what,
         }
     }
 
@@ -142,10 +134,15 @@ impl Stored {
                 if bytes == 1 { "is" } else { "are" },
             ));
         }
-        if let Some((at, what)) = &self.departure {
-            notes.push(format!(
-                "a rewrite, and every edit that writes the table, would alter it, first at {at:#x}, {what}"
-            ));
+        const EDITS: &str = "a rewrite, and every edit that writes the table,";
+        match self.departure {
+            Departure::None => {}
+            Departure::At(at) => notes
+                .push(format!("{EDITS} would alter it, first at {at:#x}, {}", self.what)),
+            Departure::Refused(number) => notes.push(format!(
+                "{EDITS} is refused {number} ({}): with no name shared it would pass the limits of a table",
+                cause(number).unwrap_or_default()
+            )),
         }
         notes
     }
@@ -158,13 +155,19 @@ impl Stored {
             fields.push(("parent", (*parent).into()));
             Json::Object(fields)
         });
+        let (alters, refused) = match self.departure {
+            Departure::None => (None, None),
+            Departure::At(at) => (Some(at), None),
+            Departure::Refused(number) => (None, Some(number)),
+        };
         let root = vec![("name_offset", self.root.0.into()), ("parent", self.root.1.into())];
         vec![
             ("stored_parents", Json::List(parents.collect())),
             ("root", Json::Object(root)),
             ("unused_texts", self.unused.map_or(0, |unused| unused.0).into()),
             ("unused_texts_at", self.unused.map(|unused| unused.1).into()),
-            ("rewrite_alters_at", self.departure.as_ref().map(|(at, _)| *at).into()),
+            ("rewrite_alters_at", alters.into()),
+            ("rewrite_refused", refused.into()),
         ]
     }
 }

@@ -1,12 +1,13 @@
 //! What an edit did, in words.
 
 use crate::call::{Call, Wish};
-use crate::disc::{Disc, Kind, LONGEST_PATH, Node};
+use crate::disc::{Disc, Kind, Node};
 use crate::maximum::Maximum;
 use crate::names::{self, shown};
 use crate::record;
 use crate::text::{counted, grouped, size};
 use crate::trial::Trial;
+use counter_sys::MOST_PATH;
 use std::collections::HashSet;
 use std::io::Write;
 
@@ -19,6 +20,10 @@ fn named(out: &mut Vec<u8>, before: &str, path: &[u8], after: &str) {
 pub fn report(wish: &Wish, call: &Call, before: &Disc, trial: &Trial) -> Vec<u8> {
     let (after, nothing) = (&trial.after, trial.change.is_nothing());
     let mut out = Vec::new();
+    if let Some(maximum) = &trial.maximum {
+        stated(&mut out, trial.change.maximum, maximum);
+        return out;
+    }
     match *call {
         Call::MakeFolders(_) => {
             named_as(&mut out, "made ", &new_entries(call, before, trial));
@@ -35,12 +40,8 @@ pub fn report(wish: &Wish, call: &Call, before: &Disc, trial: &Trial) -> Vec<u8>
                 lost => out.extend(lost_words(wish, lost).as_bytes()),
             }
         }
-        Call::Maximum(to) => {
-            stated(&mut out, trial.change.maximum, &Maximum::of(to, after));
-            return out;
-        }
         Call::Rewrite if nothing => out.extend(b"the table is as a rewrite leaves it\n"),
-        Call::Rewrite => out.extend(b"the table was written anew\n"),
+        _ => out.extend(b"the table was written anew\n"),
     }
     if let Some((first, last)) = renumbered(call, before, trial) {
         let _ = writeln!(out, "entries {first} to {last} have higher numbers now");
@@ -154,13 +155,14 @@ fn too_long(node: &Node, spell: fn(&[u8]) -> Vec<u8>) -> Vec<Vec<u8>> {
     // From the root on, without the `/` at either end: the shortest way to write it.
     let path = node.path.strip_suffix(b"/").unwrap_or(&node.path);
     match path.len() - 1 {
-        ..LONGEST_PATH => {}
-        LONGEST_PATH => {
+        ..MOST_PATH => {}
+        MOST_PATH => {
             note("the path is at its longest: it is taken without its first / alone".into())
         }
         long => note(format!(
-            "the path has {} bytes, and PATH at most 1,024: no command can reach it",
-            grouped(long as u64)
+            "the path has {} bytes, and PATH at most {}: no command can reach it",
+            grouped(long as u64),
+            grouped(MOST_PATH as u64)
         )),
     }
     notes

@@ -4,11 +4,11 @@
 use crate::call::{Call, Wish, refused};
 use crate::change::Change;
 use crate::clip::Clip;
-use crate::disc::{CLUSTER, Disc, Kind, a_file_on, table_end, written_size};
+use crate::disc::{CLUSTER, Disc, Kind, a_file_on, table_anew, table_end};
 use crate::failure::{Failure, INTERNAL, Outcome};
 use crate::header::Header;
 use crate::image::{Desk, Image};
-use crate::maximum::{explained, new_size};
+use crate::maximum::{Maximum, explained, new_size};
 use counter_sys::{self as counter, Record};
 use std::ops::Range;
 
@@ -20,6 +20,8 @@ pub struct Trial {
     /// The record as it goes in, and as it comes back.
     pub given: Record,
     pub record: Record,
+    /// Where the edit states another maximum, the table held against it.
+    pub maximum: Option<Maximum>,
 }
 
 pub fn try_out(
@@ -59,10 +61,12 @@ pub fn try_out(
         lost: 0..0,
         maximum: None,
     };
+    let mut maximum = None;
     if let Call::Maximum(to) = *call {
         let header = Header::read(image.bytes()).map_err(|number| refused(wish, number))?;
         change.maximum = Some((header.fst_maximum(), to));
         (change.old, change.new) = Default::default();
+        maximum = Some(Maximum::read(&copy, desk, &after.opened)?);
     }
     if let Some(at) = call.file() {
         let at = at as usize;
@@ -75,7 +79,7 @@ pub fn try_out(
         let text = format!("{}: libcounter would write where no edit writes", image.name);
         return Err(Failure::error(INTERNAL, text));
     }
-    Ok(Trial { found, after, change, given, record })
+    Ok(Trial { found, after, change, given, record, maximum })
 }
 
 /// 26, with by how many bytes: whatever else could fail here leaves the number as it is.
@@ -90,7 +94,9 @@ fn above_maximum(
     let refusal = refused(wish, 26);
     let Ok(header) = Header::read(copy.bytes()) else { return refusal };
     let after = new_size(call, copy.bytes_mut(), desk, given);
-    explained(refusal, before, header.fst_maximum().into(), after)
+    let Ok(anew) = table_anew(copy, desk) else { return refusal };
+    let sizes = (before.opened.fst_size.into(), anew.len() as u64, after);
+    explained(refusal, sizes, header.fst_maximum().into())
 }
 
 /// What the edit does to the file's bytes, told by its place before and after.
@@ -145,9 +151,9 @@ fn stand_ins(call: &Call, image: &Image, desk: &mut Desk, disc: &Disc) -> Vec<Ra
         }
         _ => {}
     }
-    // A table that grows must find its own bytes behind it.
-    let tables =
-        table_end(&disc.opened).max(u64::from(disc.opened.fst_offset) + written_size(&disc.nodes));
+    // A table that grows must find its own bytes behind it. Where there is none anew, the edit is refused.
+    let anew = table_anew(image, desk).map_or(u64::MAX, |table| table.len() as u64);
+    let tables = table_end(&disc.opened).max(anew.saturating_add(disc.opened.fst_offset.into()));
     let free = |place: &Range<u64>| {
         place.start >= tables
             && disc.free.iter().any(|region| {

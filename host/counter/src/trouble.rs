@@ -1,10 +1,14 @@
-//! More words for a refusal of opening: which entry it is, and with what. The library says the
-//! number; this looks at table and program once more, and is silent where it finds no such trouble.
+//! More words for a refusal of opening. The library tells which entry it is about, which regions or which
+//! section (`fault`); what stands there is read here, to be told. Where it tells no such trouble, nothing
+//! is said.
 
-use crate::header::Header;
-use crate::names::{self, is_fit, is_unsafe, units};
-use crate::text::section;
-use counter_sys::HEADER_SIZE;
+use crate::header::{DOL_OFFSET, Header};
+use crate::names;
+use crate::text::{grouped, section};
+use counter_sys::{
+    self as counter, About, DOL_WORDS, Fault, HEADER_SIZE, MOST_ENTRIES, MOST_LEVELS, MOST_TEXT,
+    MOST_WORDS, Owner,
+};
 
 /// What is wrong, if the refusal `number` can be told in more words.
 pub fn words(image: &[u8], number: u32) -> Option<String> {
@@ -16,9 +20,7 @@ pub fn words(image: &[u8], number: u32) -> Option<String> {
         2 => Some("this is a Wii disc".into()),
         3 => Some("this is no GameCube disc image".into()),
         4 => bounds(image),
-        9 => Some("more than 16,384 entries, 1,048,576 bytes of names or 64 levels".into()),
-        24 => program(image),
-        _ => Table::read(image)?.words(number),
+        _ => Spoiled::of(image)?.words(number),
     }
 }
 
@@ -38,13 +40,14 @@ fn form(image: &[u8]) -> Option<String> {
     Some(match *name {
         "gzip" => "this is a gzip file; `gunzip -k IMAGE` makes an image of it".into(),
         name => format!(
-            "this is an image in the form {name}; `dolphin-tool convert -f iso -i IMAGE -o NEW.iso` makes a plain \
-             one of it"
+            "this is an image in the form {name}; `dolphin-tool convert -f iso -i IMAGE -o NEW.iso` makes a \
+             plain one of it"
         ),
     })
 }
 
-/// What is to be known of an NKit image, whose header looks like any other: files are moved and bytes left out.
+/// What is to be known of an NKit image, whose header looks like any other: files are moved and bytes left
+/// out.
 pub fn nkit(image: &[u8]) -> Option<&'static str> {
     image.get(0x200..)?.starts_with(b"NKIT").then_some(
         "this is an NKit image: files are moved in it and bytes left out. NKit's `ConvertToISO IMAGE` makes the \
@@ -52,14 +55,13 @@ pub fn nkit(image: &[u8]) -> Option<&'static str> {
     )
 }
 
-/// Which of the four parts of 4 it is.
+/// Which numbers of 4 to tell: the library says no more than that they disagree.
 fn bounds(image: &[u8]) -> Option<String> {
     let header = Header::read(image).ok()?;
-    let fst = u64::from(header.word(0x424));
-    let table_end = fst + u64::from(header.word(0x428));
+    let (fst, table_end) = header.table();
     let disc_end = header.disc_end();
     let have = image.len();
-    Some(if fst < 0x440 {
+    Some(if fst < HEADER_SIZE as u64 {
         format!("FST offset {fst:#x}")
     } else if disc_end > u64::from(u32::MAX) {
         format!("disc end {disc_end:#x}")
@@ -70,217 +72,175 @@ fn bounds(image: &[u8]) -> Option<String> {
     })
 }
 
-fn word(bytes: &[u8], at: usize) -> u32 {
-    u32::from_be_bytes(bytes[at..at + 4].try_into().expect("four bytes"))
+/// Bytes of a program's header.
+const DOL_SIZE: u64 = 4 * DOL_WORDS as u64;
+
+fn word(bytes: &[u8], at: u64) -> Option<u32> {
+    let four = bytes.get(usize::try_from(at).ok()?..)?.first_chunk()?;
+    Some(u32::from_be_bytes(*four))
 }
 
-/// The program's header, as it stands at an offset of the image.
-struct Dol<'a>(&'a [u8]);
-
-impl<'a> Dol<'a> {
-    const SIZE: u64 = 0xE4;
-
-    /// None where it passes the image.
-    fn at(image: &'a [u8], offset: u32) -> Option<Dol<'a>> {
-        image.get(offset as usize..)?.get(..Self::SIZE as usize).map(Dol)
-    }
-
-    /// Offset and size of each section.
-    fn sections(&self) -> impl Iterator<Item = (u32, u32)> {
-        (0..18).map(|i| (word(self.0, 4 * i), word(self.0, 0x90 + 4 * i)))
-    }
-
-    /// How many bytes the program takes.
-    fn length(&self) -> u64 {
-        self.sections().map(sum).max().unwrap_or(0).max(Self::SIZE)
-    }
+/// An image that does not open, with its table. What is not there is not told.
+struct Spoiled<'a> {
+    image: &'a [u8],
+    header: Header,
+    table: &'a [u8],
 }
 
-fn sum((offset, size): (u32, u32)) -> u64 {
-    u64::from(offset) + u64::from(size)
-}
+/// From where to where, and how it is called.
+type Place = (u64, u64, String);
 
-/// Which of the two parts of 24 it is. `dol` reads a program at 0, too, where opening takes it for none.
-fn program(image: &[u8]) -> Option<String> {
-    let at = Header::read(image).ok()?.word(0x420);
-    let Some(dol) = Dol::at(image, at) else {
-        let (end, have) = (u64::from(at) + Dol::SIZE, image.len());
-        return Some(format!(
-            "the program's header {at:#x} to {end:#x}, the file has {have} bytes"
-        ));
-    };
-    let past = |section: &(usize, (u32, u32))| sum(section.1) > u64::from(u32::MAX);
-    let (i, (offset, size)) = dol.sections().enumerate().find(past)?;
-    let name = section(i);
-    Some(format!("the program at {at:#x}: {name} has offset {offset:#x} and size {size:#x}"))
-}
-
-/// What a used region holds.
-#[derive(Clone, Copy, PartialEq, Eq, PartialOrd, Ord)]
-enum Used {
-    Table,
-    Program,
-    Entry(usize),
-}
-
-/// The table as it stands, whatever it holds.
-struct Table<'a> {
-    bytes: &'a [u8],
-    count: usize,
-    fst: u64,
-    table_end: u64,
-    disc_end: u64,
-    /// Where the program begins and ends.
-    program: Option<(u64, u64)>,
-}
-
-impl<'a> Table<'a> {
-    fn read(image: &'a [u8]) -> Option<Table<'a>> {
+impl<'a> Spoiled<'a> {
+    fn of(image: &'a [u8]) -> Option<Spoiled<'a>> {
         let header = Header::read(image).ok()?;
-        let (fst, size) = (header.word(0x424) as usize, header.word(0x428) as usize);
-        let bytes = image.get(fst..)?.get(..size)?;
-        let count = u32::from_be_bytes(bytes.get(8..12)?.try_into().ok()?) as usize;
-        let (fst, table_end) = (fst as u64, (fst + size) as u64);
-        let program = match header.word(0x420) {
-            0 => None,
-            at => Dol::at(image, at).map(|dol| (at.into(), u64::from(at) + dol.length())),
-        };
-        let (count, disc_end) = (count.max(1), header.disc_end());
-        Some(Table { bytes, count, fst, table_end, disc_end, program })
-    }
-
-    fn word(&self, k: usize, i: usize) -> u32 {
-        word(self.bytes, 12 * k + 4 * i)
-    }
-
-    fn kind(&self, k: usize) -> u8 {
-        self.bytes[12 * k]
-    }
-
-    fn name_offset(&self, k: usize) -> usize {
-        (self.word(k, 0) & 0xFF_FFFF) as usize
-    }
-
-    fn texts(&self) -> &'a [u8] {
-        self.bytes.get(12 * self.count..).unwrap_or_default()
-    }
-
-    fn name(&self, k: usize) -> &'a [u8] {
-        let rest = self.texts().get(self.name_offset(k)..).unwrap_or_default();
-        rest.split(|&b| b == 0).next().unwrap_or_default()
-    }
-
-    /// The start of an entry's name, for what is said about it.
-    fn called(&self, k: usize) -> String {
-        names::short(self.name(k))
+        let (start, end) = header.table();
+        let table = image.get(start as usize..end as usize)?;
+        Some(Spoiled { image, header, table })
     }
 
     fn words(&self, number: u32) -> Option<String> {
-        let whole = self.bytes.len() / 12;
-        match number {
-            5 => Some(format!(
-                "the table has {} bytes, and {} entries take {}",
-                self.bytes.len(),
-                self.count,
-                12 * self.count
-            )),
-            6 => {
-                let k = (0..whole.min(self.count)).find(|&k| self.kind(k) > 1)?;
-                Some(format!("entry {k} has kind {}", self.kind(k)))
-            }
-            _ if whole < self.count => None,
-            10 => self.nesting(),
-            11 => {
-                let k = (1..self.count).find(|&k| self.name_offset(k) >= self.texts().len())?;
-                Some(format!("entry {k} has name offset {}", self.name_offset(k)))
-            }
-            12 | 13 => {
-                let k = self.misnamed(number)?;
-                let why = names::trouble(self.name(k), number).map(|why| format!(": {why}"));
-                let called = self.called(k);
-                Some(format!("entry {k} is called \"{called}\"{}", why.unwrap_or_default()))
-            }
-            14 => self.misplaced().or_else(|| self.overlap()),
+        match counter::fault(self.image, &mut vec![0; MOST_WORDS]) {
+            Some(fault) if fault.number == number => self.told(fault),
+            // `dol` reads a program at 0, too, where opening takes it for none.
+            None if number == 24 => self.section((0..18).find(|&i| self.passes(i))?),
             _ => None,
         }
     }
 
-    /// The first directory whose next is at or before it, or past that of the one that holds it.
-    fn nesting(&self) -> Option<String> {
-        let mut open: Vec<usize> = Vec::new();
-        for k in 0..self.count {
-            while open.last().is_some_and(|&next| next <= k) {
-                open.pop();
+    fn told(&self, fault: Fault) -> Option<String> {
+        match (fault.number, fault.about) {
+            (5, _) => {
+                let (have, count) = (self.table.len(), self.entry(0)?[2]);
+                let wanted = 12 * u64::from(count);
+                Some(format!("the table has {have} bytes, and {count} entries take {wanted}"))
             }
-            if self.kind(k) == 1 {
-                let next = self.word(k, 2) as usize;
-                if next <= k || next > open.last().copied().unwrap_or(self.count) {
-                    return Some(format!("entry {k} has next {next}"));
-                }
-                open.push(next);
+            (9, About::Entry(k)) => {
+                Some(format!("entry {k} is a folder deeper than {MOST_LEVELS} levels"))
             }
+            (9, _) => Some(limits()),
+            // The root's own kind, and a count of 0.
+            (6 | 10, About::Image) => self.about_entry(0, fault.number),
+            (number, About::Entry(k)) => self.about_entry(k, number),
+            (_, About::Shared(a, b)) => self.shared(a, b),
+            (_, About::PastEnd(owner)) => {
+                let (start, end, name) = self.region(owner)?;
+                let disc_end = self.header.disc_end();
+                Some(format!("{name} {start:#x} to {end:#x}, the disc ends at {disc_end:#x}"))
+            }
+            (_, About::Section(i)) => self.section(i),
+            (24, About::Image) => {
+                let (at, have) = (self.program_offset(), self.image.len());
+                let end = at + DOL_SIZE;
+                Some(format!("the program's header {at:#x} to {end:#x}, the file has {have} bytes"))
+            }
+            _ => None,
         }
-        None
     }
 
-    /// The first entry whose name is none. Many names may share one long text, so each byte of the
-    /// texts is looked at once, from the last to the first, and not once a name.
-    fn misnamed(&self, number: u32) -> Option<usize> {
-        let texts = self.texts();
-        let mut wrong = vec![false; texts.len() + 1];
-        let mut ended = vec![false; texts.len() + 1];
-        for i in (0..texts.len()).rev() {
-            // What a name that begins here holds first; another cut may make a pair of other bytes.
-            let Some(unit) = units(&texts[i..]).next() else { continue };
-            let meant = if number == 12 { !is_fit(unit) } else { is_unsafe(unit) };
-            ended[i] = texts[i] == 0;
-            wrong[i] = !ended[i] && (meant || wrong[i + unit.len()]);
+    // Entries -----------------------------------------------------------------------------
+
+    /// The three words of an entry: kind and name offset; offset or parent; size or next.
+    fn entry(&self, k: u32) -> Option<[u32; 3]> {
+        let at = 12 * u64::from(k);
+        Some([word(self.table, at)?, word(self.table, at + 4)?, word(self.table, at + 8)?])
+    }
+
+    fn name(&self, k: u32) -> Option<&'a [u8]> {
+        let texts = 12 * u64::from(self.entry(0)?[2]);
+        let at = texts + u64::from(self.entry(k)?[0] & 0xFF_FFFF);
+        self.table.get(usize::try_from(at).ok()?..)?.split(|&b| b == 0).next()
+    }
+
+    fn about_entry(&self, k: u32, number: u32) -> Option<String> {
+        let [first, _, third] = self.entry(k)?;
+        match number {
+            6 => Some(format!("entry {k} has kind {}", first >> 24)),
+            10 => Some(format!("entry {k} has next {third}")),
+            11 => Some(format!("entry {k} has name offset {}", first & 0xFF_FFFF)),
+            12 | 13 => {
+                let name = self.name(k)?;
+                let why = names::trouble(name, number).map(|why| format!(": {why}"));
+                let called = names::short(name);
+                Some(format!("entry {k} is called \"{called}\"{}", why.unwrap_or_default()))
+            }
+            _ => None,
         }
-        // `.`, `..` and no name at all are unsafe, with number 13.
-        let dots = |at: usize| {
-            let dots = texts[at..].iter().take(2).take_while(|&&b| b == b'.').count();
-            number == 13 && ended[at + dots]
-        };
-        (1..self.count).find(|&k| {
-            let at = self.name_offset(k);
-            at < texts.len() && (wrong[at] || dots(at))
+    }
+
+    // Regions -----------------------------------------------------------------------------
+
+    fn region(&self, owner: Owner) -> Option<Place> {
+        Some(match owner {
+            Owner::Table => (0, self.header.table().1, "the table".into()),
+            Owner::Program => {
+                let at = self.program_offset();
+                (at, at + self.program_size(), "the program".into())
+            }
+            Owner::Entry(k) => {
+                let [_, offset, size] = self.entry(k)?;
+                let called = names::short(self.name(k)?);
+                let end = u64::from(offset) + u64::from(size);
+                (offset.into(), end, format!("entry {k} \"{called}\""))
+            }
         })
     }
 
-    /// A program that lies neither between header and table nor behind the table.
-    fn misplaced(&self) -> Option<String> {
-        let (start, end) = self.program?;
-        let other = if start < HEADER_SIZE as u64 {
-            format!("the header 0x0 to {HEADER_SIZE:#x}")
-        } else if start < self.table_end && self.fst < end {
-            format!("the table {:#x} to {:#x}", self.fst, self.table_end)
-        } else {
-            return None;
+    fn shared(&self, a: Owner, b: Owner) -> Option<String> {
+        let both = match (a, b) {
+            // It may lie before the table, so what it lies over there is told.
+            (Owner::Table, Owner::Program) | (Owner::Program, Owner::Table) => {
+                [self.before(self.program_offset()), self.region(Owner::Program)?]
+            }
+            _ => {
+                let mut both = [self.region(a)?, self.region(b)?];
+                both.sort();
+                both
+            }
         };
-        Some(format!("{other} and the program {start:#x} to {end:#x}"))
+        let told = both.map(|(start, end, name)| format!("{name} {start:#x} to {end:#x}"));
+        Some(told.join(" and "))
     }
 
-    /// The first two used regions that overlap, or the one that passes the disc end.
-    fn overlap(&self) -> Option<String> {
-        let mut used = vec![(0, self.table_end, Used::Table)];
-        let behind = |&(start, _): &(u64, u64)| start >= self.table_end;
-        used.extend(self.program.filter(behind).map(|(start, end)| (start, end, Used::Program)));
-        for k in 1..self.count {
-            let (start, size) = (u64::from(self.word(k, 1)), u64::from(self.word(k, 2)));
-            if self.kind(k) == 0 && size > 0 {
-                used.push((start, start + size, Used::Entry(k)));
-            }
+    /// What a program from `at` on lies over, of the bytes up to the table's end.
+    fn before(&self, at: u64) -> Place {
+        let (start, end) = self.header.table();
+        match HEADER_SIZE as u64 {
+            header if at < header => (0, header, "the header".into()),
+            _ => (start, end, "the table".into()),
         }
-        used.sort();
-        let told = |&(start, end, what): &(u64, u64, Used)| match what {
-            Used::Table => format!("the table {start:#x} to {end:#x}"),
-            Used::Program => format!("the program {start:#x} to {end:#x}"),
-            Used::Entry(k) => format!("entry {k} \"{}\" {start:#x} to {end:#x}", self.called(k)),
-        };
-        if let Some(pair) = used.windows(2).find(|pair| pair[1].0 < pair[0].1) {
-            return Some(format!("{} and {}", told(&pair[0]), told(&pair[1])));
-        }
-        let past = used.iter().find(|region| region.1 > self.disc_end)?;
-        Some(format!("{}, the disc ends at {:#x}", told(past), self.disc_end))
     }
+
+    // The program -------------------------------------------------------------------------
+
+    fn program_offset(&self) -> u64 {
+        self.header.word(DOL_OFFSET).into()
+    }
+
+    /// A section's offset and size.
+    fn numbers(&self, i: u32) -> Option<(u32, u32)> {
+        let at = self.program_offset() + 4 * u64::from(i);
+        Some((word(self.image, at)?, word(self.image, at + 0x90)?))
+    }
+
+    fn passes(&self, i: u32) -> bool {
+        self.numbers(i).is_some_and(|(offset, size)| offset.checked_add(size).is_none())
+    }
+
+    /// How many bytes it takes, only to be told: of an image that does not open the library tells no region.
+    fn program_size(&self) -> u64 {
+        let sections = (0..18).filter_map(|i| self.numbers(i));
+        let ends = sections.map(|(offset, size)| u64::from(offset) + u64::from(size));
+        ends.max().unwrap_or(0).max(DOL_SIZE)
+    }
+
+    fn section(&self, i: u32) -> Option<String> {
+        let (at, (offset, size), name) =
+            (self.program_offset(), self.numbers(i)?, section(i as usize));
+        Some(format!("the program at {at:#x}: {name} has offset {offset:#x} and size {size:#x}"))
+    }
+}
+
+fn limits() -> String {
+    let [entries, text] = [MOST_ENTRIES, MOST_TEXT].map(|most| grouped(most as u64));
+    format!("more than {entries} entries, {text} bytes of names or {MOST_LEVELS} levels")
 }

@@ -2,6 +2,10 @@
 
 mod support;
 
+use counter_sys::{
+    CLUSTER_SIZE, MOST_ENTRIES, MOST_LEVELS, MOST_PATH, MOST_REGIONS, MOST_TABLE, MOST_TEXT,
+    MOST_WORDS,
+};
 use std::fs;
 use std::path::{Path, PathBuf};
 use std::process::Command;
@@ -207,11 +211,21 @@ fn causes_and_limits_are_those_of_the_rules() {
         assert!(exit.contains(&format!("{number:2}  refused: {cause}\n")), "{number} {cause}");
     }
     // RULES, Limits; and what an image within them wants to be lent at most.
+    let limits = [
+        ("MOST_ENTRIES", MOST_ENTRIES, 16384),
+        ("MOST_TEXT", MOST_TEXT, 1048576),
+        ("MOST_LEVELS", MOST_LEVELS, 64),
+        ("MOST_PATH", MOST_PATH, 1024),
+    ];
+    for (name, from_rust, rule) in limits {
+        assert_eq!(from_rust, rule, "{name}");
+        assert!(header.contains(&format!("#define COUNTER_{name} {rule} ")), "{name}");
+    }
+    assert_eq!(MOST_REGIONS, MOST_ENTRIES + 1);
+    assert_eq!(MOST_WORDS, 4 * (MOST_ENTRIES + 2));
+    assert_eq!(MOST_TABLE, 12 * MOST_ENTRIES + MOST_TEXT);
+    assert!(header.contains(&format!("#define COUNTER_CLUSTER_SIZE {CLUSTER_SIZE:#x}\n")));
     for line in [
-        "#define COUNTER_MOST_ENTRIES 16384 ",
-        "#define COUNTER_MOST_TEXT 1048576 ",
-        "#define COUNTER_MOST_LEVELS 64 ",
-        "#define COUNTER_MOST_PATH 1024 ",
         "#define COUNTER_MOST_REGIONS (COUNTER_MOST_ENTRIES + 1)\n",
         "#define COUNTER_MOST_WORDS (4 * (COUNTER_MOST_ENTRIES + 2))\n",
         "#define COUNTER_MOST_TABLE (12 * COUNTER_MOST_ENTRIES + COUNTER_MOST_TEXT)\n",

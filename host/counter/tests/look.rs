@@ -194,7 +194,7 @@ fn find_answers_as_the_worked_examples_do() {
 fn check_names_number_and_cause() {
     let temp = Temp::new();
     type Case = (u32, &'static str, fn(&mut Vec<u8>));
-    let cases: [Case; 18] = [
+    let cases: [Case; 20] = [
         (1, "header field past the image (the file has 1087 bytes", |b| b.truncate(0x43F)),
         (1, "the file is empty", |b| b.clear()),
         (2, "Wii magic", |b| put(b, 0x18, 0x5D1C_9EA3)),
@@ -207,6 +207,7 @@ fn check_names_number_and_cause() {
             put(b, 0x448, 3)
         }),
         (6, "kind above 1 (entry 1 has kind 2)", |b| b[0x44C] = 2),
+        (6, "kind above 1 (entry 0 has kind 2)", |b| b[0x440] = 2),
         (7, "root a file", |b| b[0x440] = 0),
         (8, "last text unended", |b| b[0x459] = b'b'),
         (9, "limit or memory", |b| put(b, 0x448, 16_385)),
@@ -218,6 +219,7 @@ fn check_names_number_and_cause() {
             b[0x44C] = 1;
             put(b, 0x454, 3)
         }),
+        (10, "its parent's next (entry 0 has next 0)", |b| put(b, 0x448, 0)),
         (11, "the texts' end (entry 1 has name offset 2)", |b| put(b, 0x44C, 2)),
         (12, "name byte (entry 1 is called \"\\x80\": the byte 0x80)", |b| b[0x458] = 0x80),
         (13, "unsafe or empty name (entry 1 is called \":\": it holds :)", |b| b[0x458] = b':'),
@@ -240,6 +242,18 @@ fn check_names_number_and_cause() {
         let listed = on("list", &image, &[]);
         assert_eq!((listed.status, listed.out), (number as i32, format!("refused {number}\n")));
     }
+}
+
+#[test]
+fn a_folder_that_is_too_deep_is_told() {
+    let temp = Temp::new();
+    // Entries 1 to 64 are folders, each in the one before it; now 65 is one too.
+    let mut bytes = fs::read(long_names(&temp, 100)).unwrap();
+    put(&mut bytes, 0x440 + 12 * 65, 0x0100_0000);
+    put(&mut bytes, 0x440 + 12 * 65 + 8, 100);
+    let run = on("check", &temp.write("deeper.iso", &bytes), &[]);
+    assert_eq!(run.status, 9);
+    assert!(run.err.contains("(entry 65 is a folder deeper than 64 levels)"), "{}", run.err);
 }
 
 #[test]
@@ -951,38 +965,10 @@ fn help_documents_commands_statuses_and_safety() {
         assert!(run_help.out.contains(&format!("counter {command} ")), "{command}");
         assert!(run(&["help", command]).out.contains(&format!("counter {command} ")));
     }
-    // The causes, word for word and in their order.
-    let causes = [
-        "header field past the image",
-        "Wii magic",
-        "not GameCube magic",
-        "FST offset below 0x440, disc end above 2^32 - 1, table end past it, or image shorter than it",
-        "entry past the table",
-        "kind above 1",
-        "root a file",
-        "last text unended",
-        "limit or memory",
-        "next at or before its entry, past the count or past its parent's next",
-        "name offset at or past the texts' end",
-        "name byte",
-        "unsafe or empty name",
-        "used regions overlap or pass the disc end",
-        "no such entry",
-        "file wanted",
-        "directory wanted",
-        "not found",
-        "name exists",
-        "move overlaps itself",
-        "no space",
-        "alignment no power of two",
-        "seek",
-        "DOL header past the image, or a sum above 2^32 - 1",
-        "used bytes or edit count would leave 0 to 2^32 - 1",
-        "new table above the maximum",
-    ];
-    assert!(run_help.out.contains(&format!("\n      1 to {}: refused", causes.len())));
-    for (i, cause) in causes.iter().enumerate() {
-        assert!(run_help.out.contains(&format!("{:2}  refused: {cause}\n", i + 1)), "{cause}");
+    // The causes; c.rs has their words.
+    assert!(run_help.out.contains("\n      1 to 26: refused"));
+    for number in 1..=26 {
+        assert!(run_help.out.contains(&format!("\n  {number:2}  refused: ")), "{number}");
     }
     for status in [64, 65, 66, 70, 73, 74, 75, 77] {
         assert!(run_help.out.contains(&format!("\n  {status}  ")), "{status}");
@@ -1455,6 +1441,13 @@ fn names_without_end_do_not_eat_the_machine() {
     assert_eq!(on("find", &image, &["n"]).status, 18);
     // Not shared any more, the names would not fit.
     assert_eq!(on("rewrite", &image, &[]).status, 9);
+    let note =
+        "note: a rewrite, and every edit that writes the table, is refused 9 (limit or memory): ";
+    let check = done("check", &image, &[]);
+    assert!(check.contains(note), "{check}");
+    let told = json("check", &image, &[]);
+    assert_eq!(told.at("rewrite_alters_at"), &Json::Null);
+    assert_eq!(told.at("rewrite_refused").number(), 9);
     for args in [&["tree"][..], &["list", "--json"]] {
         let run = on(args[0], &image, &args[1..]);
         assert_eq!(run.status, 65, "{args:?}");

@@ -410,32 +410,25 @@ fn a_limit_comes_before_the_maximum() {
     }
     bytes[0x464..0x464 + 0xF_FFFF].fill(b'n');
     put(&mut bytes, 0x428, 36 + 0x10_0000);
-    let notes = [
-        (
-            1,
-            "the table has 1,048,612 bytes, 1,048,611 above the maximum of 1 that the header states; rewritten it \
-             would have 2,097,188, 2,097,187 above; every edit that writes a table is refused",
-        ),
-        (
-            1_048_612,
-            "the table, rewritten with no name shared, has 2,097,188 bytes, 1,048,576 above the maximum of \
-             1,048,612 that the header states; every edit that writes a table is refused",
-        ),
-    ];
-    for (maximum, note) in notes {
+    let above = "note: the table has 1,048,612 bytes, 1,048,611 above the maximum of 1 that the header states\n";
+    for (maximum, note) in [(1, above), (1_048_612, "")] {
         put(&mut bytes, FIELD, maximum);
         let image = temp.write("long.iso", &bytes);
         refused(&image, &["rewrite"], 9);
         refused(&image, &["add", "b"], 9);
         let text = done("check", &image, &[]);
         let rest = text.split_once('\n').unwrap().1;
-        assert_eq!(of_the_maximum(rest), format!("note: {note}\n"));
+        assert_eq!(of_the_maximum(rest), note);
+        assert!(rest.contains("every edit that writes the table, is refused 9 ("), "{rest}");
+        let told = json("info", &image, &[]);
+        assert_eq!(told.at("fst_rewritten"), &Json::Null);
     }
 }
 
 /// The notes of `check`, but for those of the table as it is stored.
 fn of_the_maximum(notes: &str) -> String {
-    let other = |line: &&str| line.contains("would alter it") || line.contains("table's texts");
+    const OTHERS: [&str; 3] = ["would alter it", "table's texts", "is refused 9"];
+    let other = |line: &&str| OTHERS.iter().any(|words| line.contains(words));
     notes.split_inclusive('\n').filter(|line| !other(line)).collect()
 }
 
