@@ -118,6 +118,8 @@ impl<'a> Spoiled<'a> {
                 Some(format!("entry {k} is a folder deeper than {MOST_LEVELS} levels"))
             }
             (9, _) => Some(limits()),
+            // The root's own kind, and a count of 0.
+            (6 | 10, About::Image) => self.about_entry(0, fault.number),
             (number, About::Entry(k)) => self.about_entry(k, number),
             (_, About::Shared(a, b)) => self.shared(a, b),
             (_, About::PastEnd(owner)) => {

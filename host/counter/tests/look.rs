@@ -194,7 +194,7 @@ fn find_answers_as_the_worked_examples_do() {
 fn check_names_number_and_cause() {
     let temp = Temp::new();
     type Case = (u32, &'static str, fn(&mut Vec<u8>));
-    let cases: [Case; 18] = [
+    let cases: [Case; 20] = [
         (1, "header field past the image (the file has 1087 bytes", |b| b.truncate(0x43F)),
         (1, "the file is empty", |b| b.clear()),
         (2, "Wii magic", |b| put(b, 0x18, 0x5D1C_9EA3)),
@@ -207,6 +207,7 @@ fn check_names_number_and_cause() {
             put(b, 0x448, 3)
         }),
         (6, "kind above 1 (entry 1 has kind 2)", |b| b[0x44C] = 2),
+        (6, "kind above 1 (entry 0 has kind 2)", |b| b[0x440] = 2),
         (7, "root a file", |b| b[0x440] = 0),
         (8, "last text unended", |b| b[0x459] = b'b'),
         (9, "limit or memory", |b| put(b, 0x448, 16_385)),
@@ -218,6 +219,7 @@ fn check_names_number_and_cause() {
             b[0x44C] = 1;
             put(b, 0x454, 3)
         }),
+        (10, "its parent's next (entry 0 has next 0)", |b| put(b, 0x448, 0)),
         (11, "the texts' end (entry 1 has name offset 2)", |b| put(b, 0x44C, 2)),
         (12, "name byte (entry 1 is called \"\\x80\": the byte 0x80)", |b| b[0x458] = 0x80),
         (13, "unsafe or empty name (entry 1 is called \":\": it holds :)", |b| b[0x458] = b':'),

@@ -448,8 +448,8 @@ fn a_program_that_overlaps_something_by_a_byte_is_14() {
     // Over the table's end. With the name before it, the bytes say that a text lies at 0x61000000.
     let wrong = [
         (0x459, "(the table 0x440 to 0x45a and the program 0x459 to 0x53d)"),
-        (0x458, "(the table 0x440 to 0x45a and the program 0x458 to 0x61000458)"),
-        (0x440, "(the table 0x440 to 0x45a and the program 0x440 to 0x61000440)"),
+        (0x458, "(the program 0x458 to 0x61000458, the disc ends at 0x2000)"),
+        (0x440, "(the program 0x440 to 0x61000440, the disc ends at 0x2000)"),
     ];
     for (at, words) in wrong {
         does_not_open(&temp, &with(0x440, at, 0), 14, words);
