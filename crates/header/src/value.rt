@@ -1,7 +1,8 @@
 // The disc header as a value: read, made and written.
 ghost use Rattle.std.specs.Prelude.{◌≡◌, ◌+◌, ◌≤◌, ◌<◌, length};
 ghost use Rattle.endian.specs.Bytes.{put, span};
-ghost use Rattle.header.specs.Header.{header_of, blank_header, header_answer, write_verdict, image_with_header};
+ghost use Rattle.header.specs.Header.{header_of, blank_header, header_answer};
+ghost use Rattle.header.specs.Header.{write_verdict, image_with_header};
 ghost use Rattle.header.specs.Inner.Writing.{put_some};
 
 use crate::fields;
