@@ -37,7 +37,11 @@ pub struct DiscHeader {
 }
 
 impl DiscHeader {
+    /// The word at 0x1C of a GameCube disc.
     pub const GCN_MAGIC: u32 = fields::GCN_MAGIC;
+
+    /// The word at 0x18 of a Wii disc.
+    pub const WII_MAGIC: u32 = fields::WII_MAGIC;
 
     /// A header of a GameCube disc, with every other field 0.
     #[tactic(auto, unfolding(crate::specs::Header::blank_header))]
