@@ -148,6 +148,8 @@ impl<'a> Entries<'a> {
     }
 
     // Entry k of the walk: its name, then its next.
+    // Always inlined: a call for each entry is felt at opening.
+    #[inline(always)]
     fn node_verdict(&self, texts: &mut Survey<'_>, dirs: &Stack, k: usize) -> Verdict
         requires within { k < self.now.count }
         requires same_table { texts.old.table ≡ self.now.table.now }
