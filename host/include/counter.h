@@ -39,7 +39,8 @@
  *                            program and one behind each file
  *     counter_free_clusters  COUNTER_CLUSTER_WORDS * (n + 1) words
  *
- * Every call that takes words opens the image first, and refuses what opening refuses. Its tests, in this order: the header's fields (1),
+ * Every call that takes words opens the image first, and refuses what opening refuses (counter_fault tells it instead, and counter_report
+ * writes it). Its tests, in this order: the header's fields (1),
  * Wii magic (2), GameCube magic (3); 4; the root (5, 6, 7); more entries than COUNTER_MOST_ENTRIES (9); each further entry in turn (5, 6);
  * 8; more bytes of names than COUNTER_MOST_TEXT (9); too few words (9); a count of 0 (10); then each entry: 11, 12, 13 (not the root's), 10, a directory
  * deeper than COUNTER_MOST_LEVELS (9); then 24, for a DOL offset other than 0: the program's header passes the image, or one of its sums of
@@ -79,7 +80,7 @@ extern "C" {
 #define COUNTER_OF_TABLE 0 /* the bytes from 0 up to the table's end */
 #define COUNTER_OF_PROGRAM UINT32_MAX
 
-/* ---- limits: an image with more does not open, and no edit makes one */
+/* ---- limits of an image that opens and of what an edit makes; and of a path */
 
 #define COUNTER_MOST_ENTRIES 16384 /* with the root */
 #define COUNTER_MOST_TEXT 1048576  /* bytes of names, each with a zero byte behind it */
@@ -135,8 +136,8 @@ uint32_t counter_header(const uint8_t *image, size_t image_len, uint8_t fields[C
 /* Opens the image. answer[5]: FST offset, FST size, disc end, entries, used total. */
 uint32_t counter_open(const uint8_t *image, size_t image_len, uint32_t *words, size_t words_len, uint32_t answer[COUNTER_OPEN_SLOTS]);
 
-/* What counter_open refuses the image for. It refuses nothing itself: it returns 0. answer[4]: the number that opening refuses the image with,
- * 0 if it opens; and what of the image that is about:
+/* What counter_open refuses the image for. It refuses nothing itself: it returns 0. answer[0]: the number that opening refuses the image with,
+ * 0 if it opens. answer[1]: what of the image that is about, with answer[2] and answer[3] as said here, and else 0:
  *
  *     0  nothing more to tell
  *     1  entry answer[2], the first behind the root that is refused: 5, 6, 9 for its depth, 10 to 13
@@ -145,8 +146,8 @@ uint32_t counter_open(const uint8_t *image, size_t image_len, uint32_t *words, s
  *     4  section answer[2] of the program, 0 to 6 of text and 7 to 17 of data, the first whose offset + size passes 2^32 - 1: 24
  *
  * A used region is named by its file's number, COUNTER_OF_TABLE or COUNTER_OF_PROGRAM. Of the bytes up to the table's end, the program's
- * and each file's in table order, it is the first that passes the disc end, or that shares a byte with one before it: that one is
- * answer[2]. Slots that say nothing are 0. */
+ * and each file's in table order, it is the first that passes the disc end or shares a byte with one before it. One that does both is told
+ * as passing the disc end; else answer[2] is the first of those before it that it shares with. */
 uint32_t counter_fault(const uint8_t *image, size_t image_len, uint32_t *words, size_t words_len, uint32_t answer[COUNTER_FAULT_SLOTS]);
 
 /* answer[2]: disc end, used total. */

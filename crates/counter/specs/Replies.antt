@@ -99,7 +99,7 @@ dol_words h =
 
 -- ---- what a refusal of opening is about
 
--- a used region by its file's number, 0 for the bytes up to the table's end
+-- a used region by its file's number, 0 for the bytes up to the table's end, the largest number for the program
 abbrev pub owner_number : Owner → ℕ
 owner_number owner.Table = 0
 owner_number owner.Program = 2 ^ 32 - 1

@@ -1,4 +1,4 @@
-// The calls that read an image.
+// The calls that read an image, or tell of it what opening refuses or a rewrite would write.
 ghost use Rattle.std.specs.Prelude.{◌≡◌, length};
 ghost use Rattle.disc.specs.Calls.{open_answer, totals_answer, record_answer, program_answer};
 ghost use Rattle.disc.specs.Files.{entry_answer, lookup_answer, entries_answer, entries_list};

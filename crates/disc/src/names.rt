@@ -1,4 +1,5 @@
-// What a text alone tells, with no image: its first unit, a path's first component, whether a name is refused.
+// What a text alone tells, with no image: its first unit, a path's first component, whether a name is
+// refused.
 ghost use Rattle.std.specs.Prelude.{◌≡◌};
 ghost use Rattle.table.specs.Inner.Read.{unit_of};
 ghost use Rattle.disc.specs.Texts as texts_of;

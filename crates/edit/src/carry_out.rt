@@ -8,7 +8,8 @@ ghost use Rattle.edit.specs.Inner.Decision.{Into, clipped_image};
 use crate::decision::Writing;
 use header::Field;
 
-// unplug's `commit_file_tree`: the table, zeros over the lost tail of the old one, and the new size in the header.
+// unplug's `commit_file_tree`: the table, zeros over the lost tail of the old one, and the new size in the
+// header.
 fn commit(image: &mut [u8], bytes: &[u8], fst_offset: usize, fst_size: usize, size: usize)
     requires { TableFits (length image.old) (length bytes.now) fst_offset fst_size size }
     ensures { image.new ≡ image_with_table fst_offset fst_size (span bytes.now 0 size) image.old }

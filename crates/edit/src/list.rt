@@ -37,7 +37,8 @@ pub fn apply_all(
     if answers.len() < edits.len() {
         return Err(Refusal::LimitOrMemory);
     }
-    // Kept: answers by their index (N): of what is written through `iter_mut` beside `zip` nothing is known afterwards.
+    // Kept: answers by their index (N): of what is written through `iter_mut` beside `zip` nothing is known
+    // afterwards.
     for (i, edit) in edits.iter().enumerate() {
         answers[i] = pipeline::run(image, words.memory, bytes.memory, totals, *edit);
     }

@@ -101,8 +101,8 @@ fn decide_image(
 }
 
 /// The whole edit: opens the image, makes every test, builds the new table in the working bytes, and only
-/// then writes the image. Gives the number of the entry that it makes, moves, resizes or fills, 0 where there is none;
-/// or why it is refused, with image and record as they were.
+/// then writes the image. Gives the number of the entry that it makes, moves, resizes or fills, 0 where there
+/// is none; or why it is refused, with image and record as they were.
 pub fn run(
     image: &mut [u8],
     words: &mut [u32],

@@ -3,3 +3,4 @@ pub mod DolFacts
 pub mod DolVectors
 pub mod ProgramLaws
 pub mod ProgramVectors
+pub mod SectionLaws

@@ -1,4 +1,5 @@
-// The executable: the header of a DOL file, and the program that the disc header means.
+// The executable: the header of a DOL file, which section it is refused for, and the program that the disc
+// header means.
 #![tactic(auto)]
 
 pub mod dol;

@@ -1,7 +1,8 @@
 // The disc header as a value: read, made and written.
 ghost use Rattle.std.specs.Prelude.{◌≡◌, ◌+◌, ◌≤◌, ◌<◌, length};
 ghost use Rattle.endian.specs.Bytes.{put, span};
-ghost use Rattle.header.specs.Header.{header_of, blank_header, header_answer, write_verdict, image_with_header};
+ghost use Rattle.header.specs.Header.{header_of, blank_header, header_answer};
+ghost use Rattle.header.specs.Header.{write_verdict, image_with_header};
 ghost use Rattle.header.specs.Inner.Writing.{put_some};
 
 use crate::fields;
@@ -36,7 +37,11 @@ pub struct DiscHeader {
 }
 
 impl DiscHeader {
+    /// The word at 0x1C of a GameCube disc.
     pub const GCN_MAGIC: u32 = fields::GCN_MAGIC;
+
+    /// The word at 0x18 of a Wii disc.
+    pub const WII_MAGIC: u32 = fields::WII_MAGIC;
 
     /// A header of a GameCube disc, with every other field 0.
     #[tactic(auto, unfolding(crate::specs::Header::blank_header))]

@@ -1,6 +1,6 @@
 // The theorems about any list of edits. Each is the promise of a function that does nothing, so that a crate
-// whose contracts hold is one in which they hold: what they say is in specs/Theorem.antt, and why they hold in
-// proofs/Laws/.
+// whose contracts hold is one in which they hold: what they say is in specs/Theorem.antt, and why they hold
+// in proofs/Laws/.
 #![tactic(auto)]
 
 ghost use Rattle.ledger.specs.Theorem.{AnyList, UnnamedStays, FillReads, RecordTells, MaximumKept};

@@ -3,7 +3,7 @@ use Prim.Native.Nat.{ℕ, ◌+◌, ◌<◌, ◌^◌}
 use Rattle.std.specs.Prelude.{◌≡◌, List, length}
 use Rattle.std.proofs.Common.{sym, ap, ◌∙◌, arith}
 use Rattle.endian.specs.Bytes.{be32, span}
-use Rattle.header.specs.Verdicts.{dol_offset, fst_offset, fst_size, disc_end}
+use Rattle.header.specs.Verdicts.{dol_offset, fst_offset, disc_end}
 use Rattle.space.specs.declared.region.DiscRegion.{DiscRegion}
 use Rattle.space.specs.Free.{free_regions}
 use Rattle.space.specs.Used.{total_size}
@@ -106,9 +106,5 @@ module _ (header table : List ℕ) (own : DiscRegion) (w : List ℕ) (m : ℕ) (
 -- ---- the parts that are cut from an image
 
 module _ (image t : List ℕ) where
-  pub cut_table : (from size : ℕ) → from ≡ fst_offset image → size ≡ fst_size image → t ≡ span image from size → t ≡ table_of image
-  unfolding table_of
-  cut_table from size p q e = rw (← p, ← q) e
-
   pub cut_program : (at : ℕ) → at ≡ dol_offset image → t ≡ span image at 0xE4 → t ≡ span image (dol_offset image) 0xE4
   cut_program at p e = rw (← p) e

@@ -1,6 +1,6 @@
 -- What a refusal is about, by the tests that led there. Assumes nothing.
 use Prim.Native.Nat.{ℕ}
-use Rattle.std.specs.Prelude.{◌≡◌, refl, true, false, List, [], Option, Ok, Err, unwrap_or, is_err}
+use Rattle.std.specs.Prelude.{◌≡◌, refl, true, false, List, [], Option, unwrap_or, is_err}
 use Rattle.std.specs.Option.{option_map_or}
 use Rattle.std.proofs.Common.{sym, ◌∙◌}
 use Rattle.refusal.specs.Refusal.{Verdict, first}
@@ -18,11 +18,8 @@ use Rattle.opened.specs.Inner.Owned.{owned_in}
 use Rattle.header.specs.Laws.FieldTests.{Bounded}
 use Rattle.opened.specs.declared.faults.About.{About}
 use Rattle.opened.specs.declared.faults.About.TheVariants as about
+use Rattle.refusal.specs.Laws.Chains.{not-refused}
 use Rattle.opened.proofs.Laws.OpeningLaws.{readable, went_on}
-
-not_refused : (v : Verdict) → is_err v ≡ false → v ≡ Ok tt
-not_refused (Ok _) e = refl
-not_refused (Err c) e = cc
 
 module _ (image : List ℕ) (words : ℕ) where
   pub about-header : is_err (first (header_verdict image) (bounds_verdict image)) ≡ true → about.Image ≡ about_of image words
@@ -40,11 +37,11 @@ module _ (image : List ℕ) (words : ℕ) where
 
       module _ (table-passed : is_err t ≡ false) where
         pub opens_then : Opens tab
-        opens_then = record { words = words; passed = sym table ∙ not_refused t table-passed }
+        opens_then = record { words = words; passed = sym table ∙ not-refused t table-passed }
 
         pub bounded : AllBytes image → Bounded image
         bounded bytes =
-            (readable image words bytes (sym (went_on h (header_verdict image) (bounds_verdict image) (check (table_of image) words) header header-passed) ∙ (same ∙ not_refused t table-passed))).bounds
+            (readable image words bytes (sym (went_on h (header_verdict image) (bounds_verdict image) (check (table_of image) words) header header-passed) ∙ (same ∙ not-refused t table-passed))).bounds
 
         module _ (p : Program) (program : p ≡ program_of image) where
           pub about-program : is_err p ≡ true → (o : Option ℕ) → o ≡ refused_section image (dol_offset image) → option_map_or about.Section o about.Image ≡ about_of image words

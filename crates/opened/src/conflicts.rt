@@ -50,11 +50,11 @@ pub struct Layout<'a> {
 }
 
 impl Layout<'_> {
-    ghost use Rattle.opened.specs.Inner.Owned.{regions_of, region_at, regions_before, shared_with};
+    ghost use Rattle.opened.specs.Inner.Owned.{layout_regions, region_numbered, regions_before, shared_with};
 
     // How many there are.
     fn len(&self) -> usize
-        ensures len { result ≡ length (regions_of self.now) }
+        ensures len { result ≡ length (layout_regions self.now) }
         ensures some { result ≡ count self.now.table + 2 }
         ensures few { result ≤ 16386 }
     {
@@ -64,7 +64,7 @@ impl Layout<'_> {
     // Region i.
     fn region(&self, i: usize) -> DiscRegion
         requires { i < count self.now.table + 2 }
-        ensures { result ≡ region_at self.now i }
+        ensures { result ≡ region_numbered self.now i }
     {
         if i == 0 {
             return DiscRegion {
@@ -104,7 +104,7 @@ impl Layout<'_> {
     fn conflict(&self, i: usize, disc_end: u32) -> Option<About>
         requires within { i < count self.now.table + 2 }
         requires few { i < 16386 }
-        ensures { let region = region_at self.now i in
+        ensures { let region = region_numbered self.now i in
             result ≡ faults.conflict_with disc_end (regions_before self.now i) region }
     {
         let region = self.region(i);
@@ -117,7 +117,7 @@ impl Layout<'_> {
 
     // The first region with which something is wrong.
     pub fn first_conflict(&self, disc_end: u32) -> Option<About>
-        ensures { result ≡ faults.first_conflict disc_end [] (regions_of self.now) }
+        ensures { result ≡ faults.first_conflict disc_end [] (layout_regions self.now) }
     {
         for i in 0..self.len() {
             if let Some(about) = self.conflict(i, disc_end) {

@@ -31,11 +31,7 @@ pub fn parts_of(image: &[u8]) -> Parts<'_>
     ensures { ArePartsOf image.now result }
 {
     let header = cut(image, 0, header::HEADER_LEN);
-    let table = cut(
-        image,
-        header::fst_offset(image) as usize,
-        header::fst_size(image) as usize,
-    );
+    let table = table_of(image);
     let program = cut(
         image,
         header::dol_offset(image) as usize,

@@ -25,7 +25,7 @@ pub enum About {
     Image,
     /// The first entry behind the root that is refused: 5, 6, 9 for the depth, 10 to 13.
     Entry(u32),
-    /// Two used regions that share a byte, the one that comes first before the other: 14.
+    /// Two used regions that share a byte, in the order table, program, files: 14.
     Shared(Owner, Owner),
     /// A used region that passes the disc end: 14.
     PastEnd(Owner),

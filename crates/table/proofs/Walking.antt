@@ -1,5 +1,5 @@
 -- One turn of each loop that looks for the first refusal, and the open directories kept in words. Assumes nothing.
-use Rattle.std.specs.Prelude.{Ok, Err, None, Some, is_err}
+use Rattle.std.specs.Prelude.{Ok, None, Some, is_err}
 use Rattle.refusal.specs.Refusal.{Verdict}
 use Prim.Native.Nat.{ℕ, zero, suc, ◌+◌, ◌-◌, ◌*◌, ◌<◌, ◌≤◌}
 use mathlib.Core.Path.{◌≡◌, refl, sym, ap, ◌∙◌}
@@ -155,10 +155,6 @@ module _ {tab : List ℕ} {c : ℕ} {dirs : List ℕ} {k : ℕ} (w : Sought tab 
 
 pub sought_end : (tab : List ℕ) (c : ℕ) (dirs : List ℕ) (k : ℕ) → Sought tab c dirs k → c ≤ k → None ≡ walk_refused tab c (c ∷ []) 1 (nodes_from tab c 1 (c - 1))
 sought_end tab c dirs k w h = sym (w.left ∙ stopped_none tab c dirs k c h)
-
-pub not_refused : (v : Verdict) → is_err v ≡ false → Ok tt ≡ v
-not_refused (Ok _) e = refl
-not_refused (Err c) e = cc
 
 -- ---- the entry that a table is refused for, by the tests that led there
 

@@ -13,10 +13,7 @@ use crate::kind::Kind;
 use crate::{patch, size};
 use refusal::{Refusal, Verdict};
 use table::{Table, fields};
-use tree::{ENTRIES_LIMIT, TEXTS_LIMIT};
-
-// No directory is in more than so many others, the root in none.
-const MOST_AROUND: usize = 64;
+use tree::{DEPTH_LIMIT, ENTRIES_LIMIT, TEXTS_LIMIT};
 
 /// A written table in front of lent bytes, which grows there by one entry at a time.
 // Kept: its fields are public, and no `impl Model`: with one, a caller that lends the bytes knew nothing of
@@ -78,7 +75,7 @@ impl<'a> Growing<'a> {
         }
         let mut around = p;
         // Kept: a range of numbers: it counts turns, and no number is used.
-        for _ in 0..MOST_AROUND {
+        for _ in 0..DEPTH_LIMIT {
             if around == 0 {
                 return true;
             }

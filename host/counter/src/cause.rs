@@ -1,5 +1,5 @@
-//! Why the library refuses, in words: the one place of the program that has them. counter.h has them for C;
-//! tests/c.rs holds it to these.
+//! Why the library refuses, in words: the one place of the program that has them. They are those of the
+//! library's `Display` (crates/refusal), and counter.h has them for C; tests/c.rs holds the three together.
 
 /// The cause with number n is the n-th.
 pub const CAUSES: [&str; 26] = [

@@ -4,6 +4,7 @@ use crate::failure::{DATA, Failure, INTERNAL, Outcome};
 use crate::image::{Desk, Image};
 use crate::names;
 use crate::trouble;
+use crate::units;
 use counter_sys::{
     self as counter, Answer, CLUSTER_WORDS, ENTRY_WORDS, MOST_ENTRIES, MOST_REGIONS, MOST_TABLE,
     Memory, Opened, REGION_WORDS, Region,
@@ -198,7 +199,8 @@ impl Disc {
         let names = self.nodes.iter().map(|node| &node.name);
         if !names::are_raw() && names::have_no_characters(names) {
             eprintln!(
-                "counter: this system's iconv has no CP932: names are written with \\xHH; --bytes keeps their bytes"
+                "counter: this system's iconv has no CP932: names are written with \\xHH; --bytes keeps their \
+                 bytes"
             );
         }
     }
@@ -269,7 +271,7 @@ fn node(number: u32, words: &[u32; ENTRY_WORDS]) -> Node {
 fn name<'a>(image: &'a Image, node: &Node) -> Option<&'a [u8]> {
     let (start, size) = (node.place.0 as usize, node.place.1 as usize);
     let name = image.bytes().get(start..)?.get(..size)?;
-    let fit = if node.number == 0 { name.is_empty() } else { names::is_name(name) };
+    let fit = if node.number == 0 { name.is_empty() } else { units::is_name(name) };
     fit.then_some(name)
 }
 
@@ -292,7 +294,7 @@ pub fn no_path(image: &Image, desk: &mut Desk, number: u32, path: &[u8]) -> Fail
 /// Which part of the path leads to a file, where a folder is wanted.
 pub fn a_file_on(image: &Image, desk: &mut Desk, path: &[u8]) -> String {
     let mut way: Vec<&[u8]> = Vec::new();
-    for part in names::parts(path) {
+    for part in units::parts(path) {
         match part {
             b"" | b"." => continue,
             b".." => _ = way.pop(),

@@ -4,6 +4,7 @@ use crate::failure::{DATA, Failure, Outcome};
 use crate::header::Field;
 use crate::image::cannot_open;
 use crate::names;
+use crate::units;
 use std::collections::HashSet;
 use std::fs::File;
 use std::io::Read;
@@ -79,7 +80,7 @@ impl Given {
             self.folders.insert(line.to_vec());
         } else {
             let path = walked(line).map_err(|why| format!("\"{text}\" {why}"))?;
-            match names::parts(line).last() {
+            match units::parts(line).last() {
                 Some(&b"") => self.folders.insert([&path[..], b"/"].concat()),
                 _ => self.files.insert(path),
             };
@@ -133,7 +134,7 @@ fn of_header(line: &[u8]) -> Option<&str> {
 /// likely a slip than leave for everything.
 fn walked(line: &[u8]) -> Result<Vec<u8>, &'static str> {
     let mut parts: Vec<&[u8]> = Vec::new();
-    for part in names::parts(line) {
+    for part in units::parts(line) {
         match part {
             b"" | b"." => {}
             b".." => {

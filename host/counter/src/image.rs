@@ -157,8 +157,8 @@ fn mapped(path: &Path, file: &File, access: Access) -> Outcome<Mapping> {
 /// Nobody knows whether there is a journal: nothing is to be taken away.
 pub fn untold(path: &Path, why: &io::Error) -> Failure {
     let text = format!(
-        "{}: {}: it cannot be told whether there is a journal, and so whether an edit of the image was cut. Nothing \
-         was done; a command that only reads takes the image as it is with --as-is",
+        "{}: {}: it cannot be told whether there is a journal, and so whether an edit of the image was cut. \
+         Nothing was done; a command that only reads takes the image as it is with --as-is",
         names::file(journal::beside(path)),
         disk::reason(why)
     );

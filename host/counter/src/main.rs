@@ -56,6 +56,7 @@ mod told;
 mod tree;
 mod trial;
 mod trouble;
+mod units;
 mod version;
 
 use args::{Args, FORMS, Form};

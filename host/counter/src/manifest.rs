@@ -15,6 +15,7 @@ use crate::save::{save, vacant};
 use crate::sha256::{self, LANES, Sha256, Sum, hex};
 use crate::stored::Departure;
 use crate::text::{counted, one_line};
+use crate::units;
 use counter_sys::{HEADER_SIZE, Region};
 use std::fs::{self, File};
 use std::io::{Read, Write};
@@ -499,7 +500,7 @@ impl Reader {
             self.open.pop();
         }
         // As in an image that opens: paths go to terminals, too.
-        if !names::is_name(name) {
+        if !units::is_name(name) {
             return None;
         }
         let (number, parent) = (records.len() as u32, *self.open.last()?);

@@ -5,7 +5,7 @@
 //! code.
 
 use crate::text::{is_obeyed, one_line, wide};
-use counter_sys as counter;
+use crate::units::{is_lead, is_pair, is_unit, unit, units};
 use std::collections::HashMap;
 use std::env;
 use std::ffi::{CStr, OsStr, c_char, c_int, c_void};
@@ -14,72 +14,6 @@ use std::os::unix::ffi::OsStrExt;
 use std::ptr::null_mut;
 use std::sync::OnceLock;
 use std::sync::atomic::{AtomicBool, Ordering};
-
-// Units -----------------------------------------------------------------------------------
-
-/// The first unit, a pair or a single byte, and what follows it.
-fn unit(bytes: &[u8]) -> Option<(&[u8], &[u8])> {
-    match counter::unit(bytes).0 {
-        0 => None,
-        len => Some(bytes.split_at(len)),
-    }
-}
-
-fn units(mut bytes: &[u8]) -> impl Iterator<Item = &[u8]> {
-    std::iter::from_fn(move || {
-        let (unit, rest) = unit(bytes)?;
-        bytes = rest;
-        Some(unit)
-    })
-}
-
-fn is_pair(lead: u8, trail: u8) -> bool {
-    counter::unit(&[lead, trail]).0 == 2
-}
-
-/// Whether the byte begins a pair where a pair's second byte follows.
-fn is_lead(byte: u8) -> bool {
-    is_pair(byte, b'@')
-}
-
-/// The first unit for which a name is refused with the number.
-fn refused_with(name: &[u8], number: u32) -> Option<&[u8]> {
-    units(name).find(|unit| counter::unit(unit).1 == number)
-}
-
-/// A path's parts, as lookup cuts it.
-pub fn parts(mut path: &[u8]) -> Vec<&[u8]> {
-    let mut parts = Vec::new();
-    loop {
-        let (part, rest) = path.split_at(counter::component(path));
-        parts.push(part);
-        match rest {
-            [_, behind @ ..] => path = behind,
-            [] => return parts,
-        }
-    }
-}
-
-/// Whether an entry of an image that opens can be called so.
-pub fn is_name(name: &[u8]) -> bool {
-    counter::name(name) == 0
-}
-
-/// What is wrong with a name, or with a path's parts, that the library refused with 12 or 13.
-pub fn trouble(name: &[u8], number: u32) -> Option<String> {
-    match number {
-        12 => match *refused_with(name, 12)? {
-            [lead] if is_lead(lead) => {
-                Some(format!("a lead byte {lead:#x} without its trail byte"))
-            }
-            [byte, ..] => Some(format!("the byte {byte:#04x}")),
-            [] => None,
-        },
-        13 if name.is_empty() => Some("it is empty".into()),
-        13 => refused_with(name, 13).map(|unit| format!("it holds {}", unit[0] as char)),
-        _ => None,
-    }
-}
 
 // Without case ----------------------------------------------------------------------------
 
@@ -171,11 +105,6 @@ impl Drop for Code {
         // SAFETY: it is open, and not used again.
         unsafe { iconv_close(self.0) };
     }
-}
-
-/// Whether the bytes are one unit, and one that a name may hold.
-fn is_unit(bytes: &[u8]) -> bool {
-    counter::unit(bytes) == (bytes.len(), 0)
 }
 
 /// The unit's character, if it is from 0xA1 on and has one of its own: some pairs share one, which then
@@ -555,21 +484,5 @@ mod tests {
         let names: [(u32, &[u8]); 7] =
             [(0, b"a"), (1, b"A"), (0, b"b"), (0, b"A"), (0, b"a"), (1, b"a"), (0, b"B")];
         assert_eq!(super::alike(names.into_iter()), [(0, 3), (1, 5), (2, 6)]);
-    }
-
-    #[test]
-    fn a_path_is_cut_at_units() {
-        let cases: [(&[u8], &[&[u8]]); 7] = [
-            (b"", &[b""]),
-            (b"/a\\b/", &[b"", b"a", b"b", b""]),
-            (b"\x95\x5c\\\x95\x5c", &[b"\x95\x5c", b"\x95\x5c"]),
-            (b"\x81\x81\x5c\x41", &[b"\x81\x81", b"A"]),
-            (b"\x81/\x5c", &[b"\x81", b"", b""]),
-            (b"\x81\x5c/\x81", &[b"\x81\x5c", b"\x81"]),
-            (b"\xb1\\\xdf", &[b"\xb1", b"\xdf"]),
-        ];
-        for (path, wanted) in cases {
-            assert_eq!(parts(path), wanted, "{path:x?}");
-        }
     }
 }

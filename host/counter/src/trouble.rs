@@ -5,6 +5,7 @@
 use crate::header::{DOL_OFFSET, Header};
 use crate::names;
 use crate::text::{grouped, section};
+use crate::units;
 use counter_sys::{
     self as counter, About, DOL_WORDS, Fault, HEADER_SIZE, MOST_ENTRIES, MOST_LEVELS, MOST_TEXT,
     MOST_WORDS, Owner,
@@ -50,8 +51,8 @@ fn form(image: &[u8]) -> Option<String> {
 /// out.
 pub fn nkit(image: &[u8]) -> Option<&'static str> {
     image.get(0x200..)?.starts_with(b"NKIT").then_some(
-        "this is an NKit image: files are moved in it and bytes left out. NKit's `ConvertToISO IMAGE` makes the \
-         disc's own image of it",
+        "this is an NKit image: files are moved in it and bytes left out. NKit's `ConvertToISO IMAGE` makes \
+         the disc's own image of it",
     )
 }
 
@@ -159,7 +160,7 @@ impl<'a> Spoiled<'a> {
             11 => Some(format!("entry {k} has name offset {}", first & 0xFF_FFFF)),
             12 | 13 => {
                 let name = self.name(k)?;
-                let why = names::trouble(name, number).map(|why| format!(": {why}"));
+                let why = units::trouble(name, number).map(|why| format!(": {why}"));
                 let called = names::short(name);
                 Some(format!("entry {k} is called \"{called}\"{}", why.unwrap_or_default()))
             }

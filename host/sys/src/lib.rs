@@ -113,10 +113,11 @@ pub const HEADER_SIZE: usize = 0x440;
 /// Bytes of a cluster.
 pub const CLUSTER_SIZE: u32 = 0x8000;
 
-/// Limits, as counter.h has them: an image with more does not open, and no edit makes one.
+/// Limits, as counter.h has them: of an image that opens, and of what an edit makes.
 pub const MOST_ENTRIES: usize = 16_384;
 pub const MOST_TEXT: usize = 1_048_576;
 pub const MOST_LEVELS: usize = 64;
+/// Bytes of a path that is passed in.
 pub const MOST_PATH: usize = 1_024;
 
 /// What an image within them wants to be lent at most.

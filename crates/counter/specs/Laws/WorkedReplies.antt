@@ -52,8 +52,8 @@ unit-slots :
     (accepted_reply (unit_words (record { len = 2; verdict = Ok tt })) ≡ reply 0 (2 ∷ 0 ∷ []))
 unit-slots = (refl, refl)
 
--- "answer[4]: the number that opening refuses the image with, 0 if it opens; and what of the image that is about": nothing more, an entry, two used
--- regions, one, a section
+-- "answer[0]: the number that opening refuses the image with, 0 if it opens. answer[1]: what of the image that is about": nothing more, an entry, two
+-- used regions, one, a section
 fault-slots :
     (fault_words None ≡ 0 ∷ 0 ∷ 0 ∷ 0 ∷ []) ×
     (fault_words (Some (record { cause = InvalidDol; about = about.Image })) ≡ 24 ∷ 0 ∷ 0 ∷ 0 ∷ []) ×

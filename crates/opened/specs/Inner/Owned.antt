@@ -11,16 +11,16 @@ use Rattle.opened.specs.declared.conflicts.Layout.{Layout}
 unfoldable pub owned_in : List ℕ → ℕ → DiscRegion → List DiscRegion
 owned_in tab t own = record { offset = 0; size = t } ∷ own ∷ map region_of (nodes_of tab)
 
-abbrev pub regions_of : Layout → List DiscRegion
-regions_of l = owned_in l.table l.table_end l.own
+abbrev pub layout_regions : Layout → List DiscRegion
+layout_regions l = owned_in l.table l.table_end l.own
 
 -- region i, and those before it
-abbrev pub region_at : Layout → ℕ → DiscRegion
-region_at l i = slice_index_or (regions_of l) i no_region
+abbrev pub region_numbered : Layout → ℕ → DiscRegion
+region_numbered l i = slice_index_or (layout_regions l) i no_region
 
 abbrev pub regions_before : Layout → ℕ → List DiscRegion
-regions_before l i = take i (regions_of l)
+regions_before l i = take i (layout_regions l)
 
 -- the first of those before region i that shares a byte with it
 abbrev pub shared_with : Layout → ℕ → Option ℕ
-shared_with l i = position_from (λ x. not (are_disjoint x (region_at l i))) 0 (regions_before l i)
+shared_with l i = position_from (λ x. not (are_disjoint x (region_numbered l i))) 0 (regions_before l i)

@@ -1,13 +1,13 @@
 -- `dol::refused_section` meets its contract. The invariant of its loop: what is left has the answer of the whole.
 use Rattle.std.proofs.Common.{arith}
 use Rattle.executable.proofs.Turns.{section-here, section-later, section_none, header-past}
-use Rattle.executable.proofs.dol.refused_section.Goals.{then-image-lt228-via-then-image-lt228, then-image-lt228-via-else-image-lt228+then-image-at}
+use Rattle.executable.proofs.dol.refused_section.Goals.{then-image-lt-DOL_HEADER_LEN-via-then-image-lt-DOL_HEADER_LEN, then-image-lt-DOL_HEADER_LEN-via-else-image-lt-DOL_HEADER_LEN+then-image-at}
 use Rattle.executable.proofs.dol.refused_section.Goals as goal
 
-pub returns-then-image-lt228 : goal.returns-then-image-lt228
-returns-then-image-lt228 c = header-past c.args.image.now c.args.at (elim c.then-image-lt228.branch [
-  | then-image-lt228-via-then-image-lt228 w ↦ omega arith
-  | then-image-lt228-via-else-image-lt228+then-image-at w ↦ omega arith
+pub returns-then-image-lt-DOL_HEADER_LEN : goal.returns-then-image-lt-DOL_HEADER_LEN
+returns-then-image-lt-DOL_HEADER_LEN c = header-past c.args.image.now c.args.at (elim c.then-image-lt-DOL_HEADER_LEN.branch [
+  | then-image-lt-DOL_HEADER_LEN-via-then-image-lt-DOL_HEADER_LEN w ↦ omega arith
+  | then-image-lt-DOL_HEADER_LEN-via-else-image-lt-DOL_HEADER_LEN+then-image-at w ↦ omega arith
 ])
 
 pub returns-then-from : goal.returns-then-from

@@ -2,9 +2,10 @@
 use Rattle.std.proofs.Common.{◌≡◌, sym, ◌∙◌, arith, ◌-◌, is_err, true, false}
 use borrow.Author.Tests.{lt-ltb, le-ltb, ne_eqb, eq-eqb}
 use lib.ListN.{length}
+use Rattle.refusal.specs.Laws.Chains.{not-refused}
 use Rattle.tree.specs.Table.{kind, count, entries_verdict}
 use Rattle.tree.specs.Faults.{is_root_refused, are_texts_refused}
-use Rattle.table.proofs.Walking.{entries-inside, count-some, root-passed, not_refused, entry-of-root, entry-of-entries, entry-of-texts, entry-of-walk}
+use Rattle.table.proofs.Walking.{entries-inside, count-some, root-passed, entry-of-root, entry-of-entries, entry-of-texts, entry-of-walk}
 use Rattle.table.proofs.acceptance.refused_entry.Goals as goal
 
 pub returns-then-table-lt12 : goal.returns-then-table-lt12
@@ -42,9 +43,9 @@ returns-then-is_err c =
 
 pub invariant_of-entries : goal.invariant_of-entries
 invariant_of-entries c =
-    let p = not_refused c.entries_verdict.result (sym c.is_err.ensures.value ∙ c.if-is_err.false) in
+    let p = not-refused c.entries_verdict.result (sym c.is_err.ensures.value ∙ c.if-is_err.false) in
     record {
-      inside = entries-inside c.args.table.now c.count-count.result (omega arith) (omega (arith, count-some c.args.table.now)) (omega arith) (sym (p ∙ c.entries_verdict.ensures));
+      inside = entries-inside c.args.table.now c.count-count.result (omega arith) (omega (arith, count-some c.args.table.now)) (omega arith) (sym (sym p ∙ c.entries_verdict.ensures));
     }
 
 pub returns-then-are_texts_refused : goal.returns-then-are_texts_refused

@@ -1,4 +1,4 @@
--- `table::acceptance::dirs_open_at` meets its contract. The invariant of its loop: those that are left shut to the same as all.
+-- `table::acceptance::shut` meets its contract. The invariant of its loop: those that are left shut to the same as all.
 use mathlib.Core.Path.{◌≡◌}
 use lib.ListN.{length}
 use Rattle.tree.specs.Table.{dirs_open_at}

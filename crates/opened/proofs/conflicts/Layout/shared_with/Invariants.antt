@@ -2,8 +2,8 @@
 use Rattle.std.proofs.Common.{◌≡◌, not, drop}
 use Rattle.std.specs.List.{position_from}
 use Rattle.space.specs.Layout.{are_disjoint}
-use Rattle.opened.specs.Inner.Owned.{region_at, regions_before, shared_with}
+use Rattle.opened.specs.Inner.Owned.{region_numbered, regions_before, shared_with}
 use Rattle.opened.proofs.conflicts.Layout.shared_with.Given as goal
 
 abbrev pub invariant-loop-j : goal.invariant-loop-j
-invariant-loop-j l = shared_with l.self l.i ≡ position_from (λ x. not (are_disjoint x (region_at l.self l.i))) l.j (drop l.j (regions_before l.self l.i))
+invariant-loop-j l = shared_with l.self l.i ≡ position_from (λ x. not (are_disjoint x (region_numbered l.self l.i))) l.j (drop l.j (regions_before l.self l.i))
