@@ -1,6 +1,7 @@
 // The calls on a text alone: its first unit, a path's first component, whether a name is refused.
 ghost use Rattle.std.specs.Prelude.{◌≡◌};
-ghost use Rattle.disc.specs.Texts.{first_unit, component_length, name_judged};
+ghost use Rattle.disc.specs.Texts.{first_unit, component_length};
+ghost use Rattle.tree.specs.Table.{units_verdict};
 ghost use Rattle.counter.specs.Replies.{reply, accepted_reply, number_told, one_word, unit_words};
 
 use crate::answer::give;
@@ -33,7 +34,7 @@ pub extern "C" fn counter_component(path: &[u8], answer: &mut u64) -> u32
 
 #[unsafe(no_mangle)]
 pub extern "C" fn counter_name(name: &[u8]) -> u32
-    ensures { result ≡ number_told (name_judged name.now) }
+    ensures { result ≡ number_told (units_verdict name.now) }
 {
     number(disc::judge_name(name))
 }

@@ -1,10 +1,10 @@
--- The answers of the calls on a text alone, with no image (RULES, Names; Lookup): its first unit, the first component
--- of a path, a name judged. Assumes nothing: these are definitions.
+-- The answers of the calls on a text alone, with no image (RULES, Names; Lookup): its first unit, and the first component
+-- of a path. A name is judged by `units_verdict` of the table. Assumes nothing: these are definitions.
 use Rattle.std.specs.Prelude.{Ok, ℕ, not, List, [], ◌∷◌, length, slice_index_or}
 use Rattle.refusal.specs.declared.Refusal.TheVariants.{InvalidNameByte, UnsafeName}
 use Rattle.refusal.specs.Refusal.{Verdict, refuse}
 use Rattle.tree.specs.Units.{TextUnit, unit_bytes, units}
-use Rattle.tree.specs.Table.{is_plain_unit, is_safe_unit, is_plain, is_safe}
+use Rattle.tree.specs.Table.{is_plain_unit, is_safe_unit}
 use Rattle.tree.specs.Lookup.{components}
 use Rattle.disc.specs.declared.answers.FirstUnit.{FirstUnit}
 
@@ -27,7 +27,3 @@ first_unit text = first_told (units text)
 -- up to the first separator that is a unit of its own, or to the end
 unfoldable pub component_length : List ℕ → ℕ
 component_length path = length (slice_index_or (components path) 0 [])
-
--- what opening refuses an entry's name for: 12 before 13
-unfoldable pub name_judged : List ℕ → Verdict
-name_judged nm = refuse (not (is_plain nm)) InvalidNameByte (refuse (not (is_safe nm)) UnsafeName (Ok tt))

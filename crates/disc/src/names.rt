@@ -3,7 +3,8 @@
 ghost use Rattle.std.specs.Prelude.{◌≡◌};
 ghost use Rattle.table.specs.Inner.Read.{unit_of};
 ghost use Rattle.disc.specs.Texts as texts_of;
-ghost use Rattle.disc.specs.Texts.{unit_judged, unit_told, name_judged};
+ghost use Rattle.disc.specs.Texts.{unit_judged, unit_told};
+ghost use Rattle.tree.specs.Table.{units_verdict};
 
 use crate::answers::FirstUnit;
 use refusal::{Refusal, Verdict};
@@ -62,15 +63,8 @@ pub fn component_length(path: &[u8]) -> usize
 }
 
 /// What opening refuses an entry's name for: 12, then 13.
-#[tactic(auto, unfolding(crate::specs::Texts::name_judged))]
 pub fn judge_name(name: &[u8]) -> Verdict
-    ensures { result ≡ name_judged name.now }
+    ensures { result ≡ units_verdict name.now }
 {
-    if !table::is_plain(name) {
-        return Err(Refusal::InvalidNameByte);
-    }
-    if !table::is_safe(name) {
-        return Err(Refusal::UnsafeName);
-    }
-    Ok(())
+    table::units_verdict(name)
 }

@@ -8,10 +8,11 @@ use native.Mathlib.Numerals.{add-one}
 use lib.ListN.{length, drop, set}
 use lib.Seq.{drop-cons, append_snoc, set_at}
 use borrow.Author.Tests.{lt-ltb, le-ltb}
-use Rattle.std.specs.Prelude.{Some, None, if◌then◌else◌, nat_lt}
+use Rattle.std.specs.Prelude.{Some, None}
+use Rattle.std.specs.List.{position_from, zip}
 use Rattle.endian.specs.Bytes.{be32}
-use Rattle.executable.specs.Sections.{section_end, first_past, refused_section}
-use Rattle.executable.specs.Dol.{words_at, largest_of}
+use Rattle.executable.specs.Sections.{sections_of, is_above, refused_section}
+use Rattle.executable.specs.Dol.{words_at, largest_of, dol_header_of}
 use Rattle.executable.specs.Laws.DolFacts.{length-words}
 
 pub words_snoc : (s : List ℕ) (at n : ℕ) → words_at s at (suc n) ≡ words_at s at n ++ (be32 s (at + 4 * n) ∷ [])
@@ -42,21 +43,54 @@ largest-end os ss all top e h = omega (arith, largest-none os ss e)
 
 -- ---- a loop over the 18 sections that looks for the first that ends above 2^32 - 1
 
-section-step : (s : List ℕ) (at i : ℕ) → i < 18 → first_past s at i (18 - i) ≡ (if nat_lt (2 ^ 32 - 1) (section_end s at i) then Some i else first_past s at (i + 1) (18 - (i + 1)))
-unfolding first_past
-section-step s at i h = let e : 18 - i ≡ suc (18 - (i + 1)) = omega arith in rw (e, add-one i)
+-- the sections from i on
+abbrev pub sections_from : List ℕ → ℕ → ℕ → List (ℕ × ℕ)
+sections_from s at i = zip (words_at s (at + 4 * i) (18 - i)) (words_at s (at + 0x90 + 4 * i) (18 - i))
 
-module _ (s : List ℕ) (at : ℕ) (inside : at + 0xE4 ≤ length s) (i : ℕ) (left : first_past s at 0 18 ≡ first_past s at i (18 - i)) where
-  pub section-here : i < 18 → 2 ^ 32 - 1 < section_end s at i → Some i ≡ refused_section s at
+words_append : (s : List ℕ) (at n m : ℕ) → words_at s at n ++ words_at s (at + 4 * n) m ≡ words_at s at (n + m)
+unfolding words_at
+words_append s at zero m = let e : at + 4 * zero ≡ at = omega arith in let f : 0 + m ≡ m = omega arith in rw (e, f)
+words_append s at (suc n) m =
+    let e : at + 4 * suc n ≡ at + 4 + 4 * n = omega arith in
+    let f : suc n + m ≡ suc (n + m) = omega arith in
+    rw (e, f, ← words_append s (at + 4) n m)
+
+all-sections : (s : List ℕ) (at : ℕ) → sections_of (dol_header_of s at) ≡ sections_from s at 0
+all-sections s at =
+    let d : at + 4 * 7 ≡ at + 0x1C = omega arith in
+    let e : at + 0x90 + 4 * 7 ≡ at + 0xAC = omega arith in
+    let t : at + 4 * 0 ≡ at = omega arith in
+    let u : at + 0x90 + 4 * 0 ≡ at + 0x90 = omega arith in
+    let os : words_at s at 7 ++ words_at s (at + 0x1C) 11 ≡ words_at s at 18 = rw d at (words_append s at 7 11) in
+    let ss : words_at s (at + 0x90) 7 ++ words_at s (at + 0xAC) 11 ≡ words_at s (at + 0x90) 18 = rw e at (words_append s (at + 0x90) 7 11) in
+    rw (os, ss, t, u)
+
+section-step : (s : List ℕ) (at i : ℕ) → i < 18 → sections_from s at i ≡ (be32 s (at + 4 * i), be32 s (at + 0x90 + 4 * i)) ∷ sections_from s at (i + 1)
+unfolding words_at
+section-step s at i h =
+    let e : 18 - i ≡ suc (18 - (i + 1)) = omega arith in
+    let p : at + 4 * i + 4 ≡ at + 4 * (i + 1) = omega arith in
+    let q : at + 0x90 + 4 * i + 4 ≡ at + 0x90 + 4 * (i + 1) = omega arith in
+    rw (e, p, q)
+
+section-end : (s : List ℕ) (at i : ℕ) → 18 ≤ i → sections_from s at i ≡ []
+unfolding words_at
+section-end s at i h = let e : 18 - i ≡ 0 = omega arith in rw e
+
+module _ (s : List ℕ) (at : ℕ) (inside : at + 0xE4 ≤ length s) (i : ℕ) (left : position_from is_above 0 (sections_from s at 0) ≡ position_from is_above i (sections_from s at i)) where
+  abbrev sum : ℕ
+  sum = be32 s (at + 4 * i) + be32 s (at + 0x90 + 4 * i)
+
+  pub section-here : i < 18 → 2 ^ 32 - 1 < sum → Some i ≡ refused_section s at
   unfolding refused_section
-  section-here h p = rw (le-ltb (length s) (at + 0xE4) inside, left, section-step s at i h, lt-ltb (2 ^ 32 - 1) (section_end s at i) p)
+  section-here h p = rw (le-ltb (length s) (at + 0xE4) inside, all-sections s at, left, section-step s at i h, lt-ltb (2 ^ 32 - 1) sum p)
 
-  pub section-later : i < 18 → section_end s at i ≤ 2 ^ 32 - 1 → first_past s at 0 18 ≡ first_past s at (i + 1) (18 - (i + 1))
-  section-later h p = left ∙ section-step s at i h ∙ rw (le-ltb (2 ^ 32 - 1) (section_end s at i) p)
+  pub section-later : i < 18 → sum ≤ 2 ^ 32 - 1 → position_from is_above 0 (sections_from s at 0) ≡ position_from is_above (i + 1) (sections_from s at (i + 1))
+  section-later h p = left ∙ rw (section-step s at i h, le-ltb (2 ^ 32 - 1) sum p)
 
   pub section_none : 18 ≤ i → None ≡ refused_section s at
-  unfolding refused_section first_past
-  section_none h = let e : 18 - i ≡ 0 = omega arith in rw (le-ltb (length s) (at + 0xE4) inside, left, e)
+  unfolding refused_section
+  section_none h = rw (le-ltb (length s) (at + 0xE4) inside, all-sections s at, left, section-end s at i h)
 
 pub header-past : (s : List ℕ) (at : ℕ) → length s < at + 0xE4 → None ≡ refused_section s at
 unfolding refused_section

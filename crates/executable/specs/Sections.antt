@@ -1,16 +1,17 @@
--- Which section an executable's header is refused for (FORMAT, The program): 7 of text and then 11 of data, each with an offset and a size.
-use Rattle.std.specs.Prelude.{ℕ, zero, suc, ◌+◌, ◌-◌, ◌*◌, ◌^◌, List, length, Option, None, Some, if◌then◌else◌, nat_lt}
-use Rattle.endian.specs.Bytes.{be32}
+-- Which section an executable's header is refused for (FORMAT, The program).
+use Rattle.std.specs.Prelude.{ℕ, ◌+◌, ◌-◌, ◌^◌, Bool, List, ◌++◌, length, Option, None, if◌then◌else◌, nat_lt}
+use Rattle.std.specs.List.{position_from, zip}
+use Rattle.executable.specs.declared.dol.DolHeader.{DolHeader}
+use Rattle.executable.specs.Dol.{dol_header_of}
 
--- where section i ends
-abbrev pub section_end : List ℕ → ℕ → ℕ → ℕ
-section_end s at i = be32 s (at + 4 * i) + be32 s (at + 0x90 + 4 * i)
+-- the offset and size of each section: 7 of text and then 11 of data
+abbrev pub sections_of : DolHeader → List (ℕ × ℕ)
+sections_of h = zip (h.text_offsets ++ h.data_offsets) (h.text_sizes ++ h.data_sizes)
 
--- the first of n sections from i on that ends above 2^32 - 1
-unfoldable pub first_past : List ℕ → ℕ → ℕ → ℕ → Option ℕ
-first_past s at i zero = None
-first_past s at i (suc n) = if nat_lt (2 ^ 32 - 1) (section_end s at i) then Some i else first_past s at (suc i) n
+-- a sum above 2^32 - 1
+abbrev pub is_above : ℕ × ℕ → Bool
+is_above section = nat_lt (2 ^ 32 - 1) (section.0 + section.1)
 
--- of the header at `at`; none where it passes the image
+-- the first that ends above 2^32 - 1, of the header at `at`; none where the header passes the image
 unfoldable pub refused_section : List ℕ → ℕ → Option ℕ
-refused_section s at = if nat_lt (length s) (at + 0xE4) then None else first_past s at 0 18
+refused_section s at = if nat_lt (length s) (at + 0xE4) then None else position_from is_above 0 (sections_of (dol_header_of s at))

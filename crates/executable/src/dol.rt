@@ -131,7 +131,7 @@ pub fn read(image: &[u8], at: usize) -> Result<DolAnswer, Refusal>
 
 /// The section that the header at `at` is refused for: the first whose offset + size passes 2^32 - 1, 0 to 6
 /// of text and 7 to 17 of data. `None` where the header passes the image, and where it is not refused.
-// Kept: over numbers, since a section's two fields stand apart, at the same number of their rows.
+// Kept: over numbers, since offsets and sizes stand in two rows, and an array of both would be stored first.
 pub fn refused_section(image: &[u8], at: usize) -> Option<u32>
     ensures { result ≡ sections.refused_section image.now at }
 {

@@ -4,7 +4,6 @@ ghost use Rattle.std.specs.Prelude.{◌≡◌, [], ◌∷◌, ◌-◌, ◌*◌, 
 ghost use Rattle.tree.specs.Table as table_of;
 ghost use Rattle.tree.specs.Faults as faults;
 ghost use Rattle.tree.specs.Table.{name_offset, name_at, node_at, nodes_from, name_verdict, next_verdict};
-ghost use Rattle.table.specs.Inner.Reading as reading_of;
 ghost use Rattle.table.specs.Inner.Reading.{IsInside, node_verdict, texts_verdict};
 ghost use Rattle.table.specs.Inner.Texts.{text_at};
 ghost use Rattle.table.specs.Inner.Blocks.{IsFit};
@@ -51,25 +50,18 @@ fn entries_verdict(table: &[u8], count: usize) -> Verdict
     Ok(())
 }
 
-// The units of the name at `at`: first whether each is a name's, then whether each is safe.
+// The tests of the name at `at` by itself, unit by unit.
 #[cold]
-fn units_verdict(table: &[u8], at: usize) -> Verdict
-    ensures { result ≡ reading_of.units_verdict (text_at table.now at) }
+fn text_verdict(table: &[u8], at: usize) -> Verdict
+    ensures { result ≡ table_of.units_verdict (text_at table.now at) }
 {
-    let name = text::text_at(table, at);
-    if !name_tests::is_plain(name) {
-        return Err(Refusal::InvalidNameByte);
-    }
-    if !name_tests::is_safe(name) {
-        return Err(Refusal::UnsafeName);
-    }
-    Ok(())
+    name_tests::units_verdict(text::text_at(table, at))
 }
 
 // The same where the text is fit: the first bytes decide.
 fn clean_verdict(table: &[u8], at: usize) -> Verdict
     requires { IsFit table.now at }
-    ensures { result ≡ reading_of.units_verdict (text_at table.now at) }
+    ensures { result ≡ table_of.units_verdict (text_at table.now at) }
 {
     if text::is_nameless_at(table, at) {
         return Err(Refusal::UnsafeName);
@@ -119,7 +111,7 @@ impl<'a> Entries<'a> {
         if texts.is_fit(at) {
             return clean_verdict(self.table, at);
         }
-        units_verdict(self.table, at)
+        text_verdict(self.table, at)
     }
 
     // The next of entry k, if it is a directory, and then its depth.

@@ -4,6 +4,7 @@ ghost use Rattle.tree.specs.Table as table_of;
 ghost use Rattle.table.specs.Inner.Texts as texts_of;
 
 use crate::units::Units;
+use refusal::{Refusal, Verdict};
 
 /// Whether the name is `.` or `..`.
 pub fn is_dots(name: &[u8]) -> bool
@@ -31,4 +32,17 @@ pub fn is_safe(name: &[u8]) -> bool
     ensures { result ≡ table_of.is_safe name.now }
 {
     !is_nameless(name) && Units::new(name).all(|unit| unit.is_safe())
+}
+
+/// What a name by itself is refused for: 12 where it is not plain, then 13 where it is not safe.
+pub fn units_verdict(name: &[u8]) -> Verdict
+    ensures { result ≡ table_of.units_verdict name.now }
+{
+    if !is_plain(name) {
+        return Err(Refusal::InvalidNameByte);
+    }
+    if !is_safe(name) {
+        return Err(Refusal::UnsafeName);
+    }
+    Ok(())
 }

@@ -133,11 +133,12 @@ abbrev pub dirs_with : List ℕ → Node → List ℕ
 dirs_with dirs (file nm offset size) = dirs
 dirs_with dirs (directory nm next) = next ∷ dirs
 
+-- of a name by itself
+abbrev pub units_verdict : List ℕ → Verdict
+units_verdict nm = refuse (not (is_plain nm)) InvalidNameByte (refuse (not (is_safe nm)) UnsafeName (Ok tt))
+
 unfoldable pub name_verdict : List ℕ → ℕ → ℕ → List ℕ → Verdict
-name_verdict tab c k nm =
-    refuse (nat_le (length tab - 12 * c) (name_offset tab k)) InvalidNameOffset
-    (refuse (not (is_plain nm)) InvalidNameByte
-    (refuse (not (is_safe nm)) UnsafeName (Ok tt)))
+name_verdict tab c k nm = refuse (nat_le (length tab - 12 * c) (name_offset tab k)) InvalidNameOffset (units_verdict nm)
 
 -- the next, and then the depth, which is the number of directories open
 unfoldable pub next_verdict : ℕ → List ℕ → ℕ → Node → Verdict

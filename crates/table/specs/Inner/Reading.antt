@@ -1,10 +1,10 @@
 -- What the functions that read a table compute on the way to the definitions of the file table. Assumes nothing: these are definitions.
 use Rattle.std.specs.Prelude.{Ok, nat_lt, nat_le, slice_index}
 use Rattle.refusal.specs.Refusal.{Verdict}
-use Rattle.std.specs.Prelude.{ℕ, zero, suc, ◌+◌, ◌-◌, ◌*◌, ◌<◌, ◌≤◌, ◌≡◌, not, List, [], ◌∷◌, length}
-use Rattle.refusal.specs.declared.Refusal.TheVariants.{MissingNullTerminator, LimitOrMemory, InvalidNextIndex, InvalidNameByte, UnsafeName}
+use Rattle.std.specs.Prelude.{ℕ, zero, suc, ◌+◌, ◌-◌, ◌*◌, ◌<◌, ◌≤◌, ◌≡◌, List, [], ◌∷◌, length}
+use Rattle.refusal.specs.declared.Refusal.TheVariants.{MissingNullTerminator, LimitOrMemory, InvalidNextIndex}
 use Rattle.refusal.specs.Refusal.{refuse, first}
-use Rattle.tree.specs.Table.{is_plain, is_safe, name_offset, size_or_next, name_at, node_at, nodes_from, is_unended, name_verdict, next_verdict, walk, check}
+use Rattle.tree.specs.Table.{name_offset, size_or_next, name_at, node_at, nodes_from, is_unended, name_verdict, next_verdict, walk, check}
 
 -- the table is accepted, where some number of working words is lent
 pub record Opens (tab : List ℕ) : Type 0 where
@@ -38,7 +38,3 @@ texts_verdict tab c words =
 -- the walk's tests of entry k, where the directories `dirs` are open
 abbrev pub node_verdict : List ℕ → ℕ → List ℕ → ℕ → Verdict
 node_verdict tab c dirs k = first (name_verdict tab c k (name_at tab c (name_offset tab k))) (next_verdict c dirs k (node_at tab c k))
-
--- the tests of a name's units: whether each may stand in a name, then whether the name is safe
-abbrev pub units_verdict : List ℕ → Verdict
-units_verdict nm = refuse (not (is_plain nm)) InvalidNameByte (refuse (not (is_safe nm)) UnsafeName (Ok tt))

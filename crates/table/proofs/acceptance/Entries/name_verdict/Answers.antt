@@ -25,4 +25,4 @@ unfolding name_verdict name_at
 returns-clause-verdict c =
     let T = c.args.self.now.table.now in
     let o : c.name_offset-offset.result ≡ name_offset T c.args.k = c.name_offset-offset.ensures.value in
-    rw (lt-leb (length T - 12 * c.args.self.now.count) (name_offset T c.args.k) (omega arith)) (rw o at c.units_verdict.ensures)
+    rw (lt-leb (length T - 12 * c.args.self.now.count) (name_offset T c.args.k) (omega arith)) (rw o at c.text_verdict.ensures)
