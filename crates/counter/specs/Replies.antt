@@ -1,7 +1,7 @@
 -- What the calls give back in C: each answer's number, 0 where the call is accepted (RULES, Causes), and the
 -- slots that the caller lends, as many as the answer has words. With a refusal they stay. Assumes nothing:
 -- these are definitions.
-use Rattle.std.specs.Prelude.{Option, Some, None, Result, Ok, Err, ℕ, ◌-◌, ◌^◌, List, [], ◌∷◌, ◌++◌, replicate, slice_index}
+use Rattle.std.specs.Prelude.{Option, Some, None, Result, Ok, Err, ℕ, ◌-◌, ◌^◌, List, [], ◌∷◌, ◌++◌, replicate, slice_index, unwrap_or}
 use Rattle.refusal.specs.declared.Refusal.{Refusal}
 use Rattle.refusal.specs.Refusal.{Verdict, number_of}
 use Rattle.opened.specs.declared.summary.Summary.{Summary}
@@ -11,6 +11,7 @@ use Rattle.opened.specs.declared.faults.About.{About}
 use Rattle.opened.specs.declared.faults.About.TheVariants as about
 use Rattle.opened.specs.declared.faults.Fault.{Fault}
 use Rattle.space.specs.declared.region.DiscRegion.{DiscRegion}
+use Rattle.space.specs.Used.{no_region}
 use Rattle.disc.specs.declared.answers.DiscTotals.{DiscTotals}
 use Rattle.disc.specs.declared.answers.FirstUnit.{FirstUnit}
 use Rattle.tree.specs.declared.Entry.{Entry}
@@ -121,9 +122,7 @@ fault_words (Some f) = number_of f.cause ∷ about_words f.about
 
 -- a program has at least 0xE4 bytes, so size 0 is none
 unfoldable pub program_reply : List ℕ → Program → Reply
-program_reply before (Ok (Some r)) = accepted_reply (region_words r)
-program_reply before (Ok None) = accepted_reply (0 ∷ 0 ∷ [])
-program_reply before (Err c) = refused_reply before c
+program_reply before a = reply_of (λ r. region_words (unwrap_or r no_region)) before a
 
 unfoldable pub found_reply : List ℕ → Found → Reply
 found_reply before (found.At k e) = accepted_reply (entry_words k e)

@@ -1,5 +1,6 @@
 -- What is asked of an open disc is the image's answer behind opening's tests. Assumes nothing.
 use Rattle.std.specs.Prelude.{Result, Ok, Err, ℕ, ◌≡◌, List, length}
+use Rattle.std.specs.Result.{result_and}
 use Rattle.std.proofs.Common.{refl, sym, ap, ◌∙◌}
 use Rattle.refusal.specs.Refusal.{Verdict}
 use Rattle.refusal.specs.declared.Refusal.{Refusal}
@@ -26,7 +27,7 @@ use Rattle.opened.specs.Inner.Told.{told_of}
 use Rattle.opened.proofs.Laws.AnswerLaws.{answer_behind-passed, asked, opened_means, opened_passes, told_meant}
 pub use Rattle.opened.proofs.Laws.AnswerLaws.{not_asked}
 use Rattle.disc.specs.Calls.{free_answer, free_list}
-use Rattle.disc.specs.Files.{file_in, entry_answer, window_answer, open_file_answer, file_size_answer, max_file_size_answer, dol_verdict, dol_as, open_dol_answer}
+use Rattle.disc.specs.Files.{file_answer, entry_answer, open_file_answer, max_file_size_answer, dol_verdict, dol_file_of, open_dol_answer}
 
 module _ (image : List ℕ) (words : ℕ) (r : Result Opened Refusal) (h : OpensAs image words r) (d : Opened) (opened : r ≡ Ok d) where
   -- an answer of the nodes
@@ -79,12 +80,18 @@ abbrev pub size_in : List DiscRegion → Result FileEntry Refusal → Result ℕ
 size_in free (Ok file) = Ok (max_region_size file.offset file.size free)
 size_in free (Err c) = Err c
 
-windowed : (x : Found) → window_of (file_in x) ≡ window_answer x
+abbrev window_for : Found → Result Window Refusal
+window_for x = file_answer (λ file. Ok (new_window file.offset file.size)) x
+
+abbrev size_for : List ℕ → ℕ → Found → Result ℕ Refusal
+size_for image words x = file_answer (λ file. max_region_size_answer image words file.offset file.size) x
+
+windowed : (x : Found) → window_of (file_answer Ok x) ≡ window_for x
 windowed (found.At k (File file)) = refl
 windowed (found.At k (Directory d)) = refl
 windowed (found.Refused c) = refl
 
-sized : (image : List ℕ) (words : ℕ) → opening image words ≡ Ok tt → (x : Found) → size_in (free_space_of image) (file_in x) ≡ file_size_answer image words x
+sized : (image : List ℕ) (words : ℕ) → opening image words ≡ Ok tt → (x : Found) → size_in (free_space_of image) (file_answer Ok x) ≡ size_for image words x
 unfolding max_region_size_answer
 sized image words o (found.At k (File file)) = answer_behind-passed (opening image words) Err (Ok (max_region_size file.offset file.size (free_space_of image))) o
 sized image words o (found.At k (Directory d)) = refl
@@ -97,31 +104,31 @@ module _ (image : List ℕ) (words : ℕ) (r : Result Opened Refusal) (h : Opens
 
   pub no_window : (c : Refusal) → r ≡ Err c → Err c ≡ open_file_answer image words k
   unfolding open_file_answer
-  no_window c e = ap window_answer (not_found c e)
+  no_window c e = ap window_for (not_found c e)
 
   pub no_size : (c : Refusal) → r ≡ Err c → Err c ≡ max_file_size_answer image words k
   unfolding max_file_size_answer
-  no_size c e = ap (file_size_answer image words) (not_found c e)
+  no_size c e = ap (size_for image words) (not_found c e)
 
-  module _ (d : Opened) (opened : r ≡ Ok d) (file : Result FileEntry Refusal) (is : file ≡ file_in (entry_found d.disc.nodes k)) where
+  module _ (d : Opened) (opened : r ≡ Ok d) (file : Result FileEntry Refusal) (is : file ≡ file_answer Ok (entry_found d.disc.nodes k)) where
     is_found : entry_found d.disc.nodes k ≡ entry_answer image words k
     unfolding entry_answer
     is_found = nodes_asked image words r h d opened found.Refused (λ (nodes : List Node). entry_found nodes k) (entry_found d.disc.nodes k) refl
 
     pub window_asked : window_of file ≡ open_file_answer image words k
     unfolding open_file_answer
-    window_asked = ap window_of is ∙ windowed (entry_found d.disc.nodes k) ∙ ap window_answer is_found
+    window_asked = ap window_of is ∙ windowed (entry_found d.disc.nodes k) ∙ ap window_for is_found
 
     pub size_asked : size_in (free_of d.disc) file ≡ max_file_size_answer image words k
     unfolding max_file_size_answer
     size_asked =
         rw (← free_meant image d (opened_means image words r h d opened))
-        (ap (size_in (free_space_of image)) is ∙ sized image words (opened_passes image words r h d opened) (entry_found d.disc.nodes k) ∙ ap (file_size_answer image words) is_found)
+        (ap (size_in (free_space_of image)) is ∙ sized image words (opened_passes image words r h d opened) (entry_found d.disc.nodes k) ∙ ap (size_for image words) is_found)
 
 -- ---- the executable
 
 module _ (image : List ℕ) (words : ℕ) (r : Result Opened Refusal) (h : OpensAs image words r) where
-  pub dol_asked : (d : Opened) → r ≡ Ok d → dol_as (dol_verdict_of image (dol_offset image)) image ≡ open_dol_answer image words
+  pub dol_asked : (d : Opened) → r ≡ Ok d → result_and (dol_verdict_of image (dol_offset image)) (Ok (dol_file_of image)) ≡ open_dol_answer image words
   unfolding open_dol_answer dol_verdict
   dol_asked d e = rw (opened_passes image words r h d e)
 

@@ -6,6 +6,7 @@ use Rattle.refusal.specs.declared.Refusal.{Refusal}
 use Rattle.opened.specs.declared.summary.Summary.{Summary}
 use Rattle.window.specs.declared.Window.{Window}
 use Rattle.std.specs.Prelude.{ℕ, List, length}
+use Rattle.std.specs.Result.{result_and}
 use Rattle.refusal.specs.declared.Refusal.TheVariants.{LimitOrMemory, ExpectedFile}
 use Rattle.refusal.specs.Refusal.{refuse, first}
 use Rattle.header.specs.Verdicts.{dol_offset, fst_offset}
@@ -43,39 +44,28 @@ entries_answer image words room =
 unfoldable pub entries_list : List ℕ → ℕ → List ℕ → List ℕ
 entries_list image words list = answer_behind (opening image words) (λ c. list) (list_with_rows (fst_offset image) (table_of image) list)
 
--- the place of a file, by its answer as an entry
-abbrev pub file_in : Found → Result FileEntry Refusal
-file_in (found.At k (File f)) = Ok f
-file_in (found.At k (Directory d)) = Err ExpectedFile
-file_in (found.Refused c) = Err c
-
-abbrev pub window_answer : Found → Result Window Refusal
-window_answer (found.At k (File f)) = Ok (new_window f.offset f.size)
-window_answer (found.At k (Directory d)) = Err ExpectedFile
-window_answer (found.Refused c) = Err c
+-- an answer from a file's place, by its answer as an entry
+abbrev pub file_answer : {A : Type 0} → (FileEntry → Result A Refusal) → Found → Result A Refusal
+file_answer f (found.At k (File file)) = f file
+file_answer f (found.At k (Directory d)) = Err ExpectedFile
+file_answer f (found.Refused c) = Err c
 
 unfoldable pub open_file_answer : List ℕ → ℕ → ℕ → Result Window Refusal
-open_file_answer image words k = window_answer (entry_answer image words k)
+open_file_answer image words k = file_answer (λ file. Ok (new_window file.offset file.size)) (entry_answer image words k)
 
 -- `max_file_size` is `max_region_size` of the file's offset and size
-abbrev pub file_size_answer : List ℕ → ℕ → Found → Result ℕ Refusal
-file_size_answer image words (found.At k (File f)) = max_region_size_answer image words f.offset f.size
-file_size_answer image words (found.At k (Directory d)) = Err ExpectedFile
-file_size_answer image words (found.Refused c) = Err c
-
 unfoldable pub max_file_size_answer : List ℕ → ℕ → ℕ → Result ℕ Refusal
-max_file_size_answer image words k = file_size_answer image words (entry_answer image words k)
+max_file_size_answer image words k = file_answer (λ file. max_region_size_answer image words file.offset file.size) (entry_answer image words k)
 
 unfoldable pub dol_verdict : List ℕ → ℕ → Verdict
 dol_verdict image words = first (opening image words) (dol_verdict_of image (dol_offset image))
 
 -- the header and the window
-abbrev pub dol_as : Verdict → List ℕ → Result DolFile Refusal
-dol_as (Ok _) image = Ok (record {
+abbrev pub dol_file_of : List ℕ → DolFile
+dol_file_of image = record {
   header = dol_header_of image (dol_offset image);
   window = new_window (dol_offset image) (file_size_of (dol_header_of image (dol_offset image)));
-})
-dol_as (Err c) image = Err c
+}
 
 unfoldable pub open_dol_answer : List ℕ → ℕ → Result DolFile Refusal
-open_dol_answer image words = dol_as (dol_verdict image words) image
+open_dol_answer image words = result_and (dol_verdict image words) (Ok (dol_file_of image))

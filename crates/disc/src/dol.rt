@@ -1,6 +1,7 @@
 // The executable of an image: its header, and the window that shows it.
 ghost use Rattle.std.specs.Prelude.{◌≡◌, length};
-ghost use Rattle.disc.specs.Files.{dol_as, open_dol_answer};
+ghost use Rattle.std.specs.Result.{result_and};
+ghost use Rattle.disc.specs.Files.{dol_file_of, open_dol_answer};
 ghost use Rattle.executable.specs.Dol.{dol_verdict_of};
 ghost use Rattle.header.specs.Verdicts.{dol_offset};
 ghost use Rattle.opened.specs.Opening.{zeros};
@@ -11,7 +12,8 @@ use refusal::Refusal;
 
 // The answer of an image that opened.
 fn dol_in(image: &[u8]) -> Result<DolFile, Refusal>
-    ensures { result ≡ dol_as (dol_verdict_of image.now (dol_offset image.now)) image.now }
+    ensures { result
+        ≡ result_and (dol_verdict_of image.now (dol_offset image.now)) (Ok (dol_file_of image.now)) }
 {
     let at = header::dol_offset(image);
     let answer = executable::dol::read(image, at as usize)?;

@@ -2,8 +2,7 @@
 ghost use Rattle.std.specs.Prelude.{◌≡◌, length};
 ghost use Rattle.tree.specs.Lookup.{entry_found};
 ghost use Rattle.opened.specs.Opening.{zeros};
-ghost use Rattle.disc.specs.Files as files_of;
-ghost use Rattle.disc.specs.Files.{path_found, entry_answer, lookup_answer};
+ghost use Rattle.disc.specs.Files.{path_found, entry_answer, lookup_answer, file_answer};
 ghost use Rattle.disc.specs.Files.{open_file_answer, max_file_size_answer};
 
 use opened::{Lent, OpenDisc};
@@ -33,7 +32,7 @@ fn found_in(disc: &OpenDisc<'_>, start: u32, path: &[u8]) -> Found
 
 // The place of file `number` of a disc: 15, then 16.
 fn file_in(disc: &OpenDisc<'_>, number: u32) -> Result<FileEntry, Refusal>
-    ensures { result ≡ files_of.file_in (entry_found disc.now.disc.nodes number) }
+    ensures { result ≡ file_answer Ok (entry_found disc.now.disc.nodes number) }
 {
     match entry_in(disc, number) {
         Found::At(_, Entry::File(file)) => Ok(file),

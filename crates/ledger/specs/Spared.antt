@@ -5,15 +5,15 @@ use Rattle.tree.specs.Insert.{number_after_insert}
 use Rattle.edit_rules.specs.Edits.{Edit, insert_file, insert_directory, make_directories, move_file, resize_file, fill_file, rewrite, new_number}
 use Rattle.ledger.specs.Ledger.{Ledger, files_before, ledger_with, Report}
 
--- an accepted edit names the file it moves, resizes or fills
-abbrev pub is_naming : Edit → Ledger → ℕ → Bool
-is_naming (insert_file p nm) l f = false
-is_naming (insert_directory p nm) l f = false
-is_naming (make_directories start path) l f = false
-is_naming (move_file k to) l f = f == files_before k l.nodes
-is_naming (resize_file k n) l f = f == files_before k l.nodes
-is_naming (fill_file k clip) l f = f == files_before k l.nodes
-is_naming rewrite l f = false
+-- f is the file that an edit moves, resizes or fills: an accepted one names it
+abbrev pub is_file_of_edit : Edit → Ledger → ℕ → Bool
+is_file_of_edit (insert_file p nm) l f = false
+is_file_of_edit (insert_directory p nm) l f = false
+is_file_of_edit (make_directories start path) l f = false
+is_file_of_edit (move_file k to) l f = f == files_before k l.nodes
+is_file_of_edit (resize_file k n) l f = f == files_before k l.nodes
+is_file_of_edit (fill_file k clip) l f = f == files_before k l.nodes
+is_file_of_edit rewrite l f = false
 
 -- the number that file f has after an accepted edit
 abbrev pub number_after_edit : Edit → Ledger → ℕ → ℕ
@@ -38,4 +38,4 @@ number_after (r ∷ reports) l f = number_after reports (ledger_next r l) (numbe
 -- no accepted edit of the list names file f
 abbrev pub IsSpared : List Report → Ledger → ℕ → Type 0
 IsSpared [] l f = Unit {0}
-IsSpared (r ∷ reports) l f = (r.accepted ≡ true → is_naming r.edit l f ≡ false) × IsSpared reports (ledger_next r l) (number_next r l f)
+IsSpared (r ∷ reports) l f = (r.accepted ≡ true → is_file_of_edit r.edit l f ≡ false) × IsSpared reports (ledger_next r l) (number_next r l f)

@@ -16,7 +16,7 @@ use Rattle.ledger.specs.Ledger.{History, Ledger, node_without_place, files_befor
 use Rattle.ledger.specs.Inner.Files.{files_of}
 use Rattle.ledger.proofs.Laws.Files.{files-at, files-count, entry_of}
 use Rattle.ledger.proofs.Laws.Bare.{before-node_without_place}
-use Rattle.ledger.specs.Spared.{is_naming, ledger_next, number_next, number_after}
+use Rattle.ledger.specs.Spared.{is_file_of_edit, ledger_next, number_next, number_after}
 use Rattle.ledger.proofs.Laws.SparedLaws.{IsFileAt, begins}
 use Rattle.ledger.specs.Inner.Told.{is_named_in, Given, given_by_edit, given_in, least_of, final_size, start_of, history_at, file_name_at, size_at, OfFiles}
 use Rattle.ledger.proofs.Laws.ToldLaws.{or-none, Exists, goes}
@@ -65,7 +65,7 @@ told reports l f o x = let g = goes reports l f o x in file-is (ledger_after rep
 
 -- ---- a file that no accepted edit named
 
-not-given : (ed : Edit) (l : Ledger) (f : ℕ) → is_naming ed l f ≡ false → given_by_edit ed l f ≡ []
+not-given : (ed : Edit) (l : Ledger) (f : ℕ) → is_file_of_edit ed l f ≡ false → given_by_edit ed l f ≡ []
 not-given (insert_file p nm) l f e = refl
 not-given (insert_directory p nm) l f e = refl
 not-given (make_directories start path) l f e = refl
@@ -79,10 +79,10 @@ pub unnamed-ungiven : (reports : List Report) (l : Ledger) (f : ℕ) → is_name
 unfolding is_named_in given_in
 unnamed-ungiven [] l f e = refl
 unnamed-ungiven (r ∷ reports) l f e =
-    let o = or-false (r.accepted && is_naming r.edit l f) _ e in
+    let o = or-false (r.accepted && is_file_of_edit r.edit l f) _ e in
     rw (unnamed-ungiven reports (ledger_next r l) (number_next r l f) o.1, here r.accepted o.0)
   where
-    here : (a : Bool) → (a && is_naming r.edit l f) ≡ false → cond a (given_by_edit r.edit l f) [] ≡ []
+    here : (a : Bool) → (a && is_file_of_edit r.edit l f) ≡ false → cond a (given_by_edit r.edit l f) [] ≡ []
     here true q = not-given r.edit l f q
     here false q = refl
 

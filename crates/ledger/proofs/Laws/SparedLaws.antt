@@ -13,7 +13,7 @@ use Rattle.ledger.specs.Ledger.{History, Ledger, files_before, new_history, put_
 use Rattle.ledger.specs.Inner.Files.{own_name, file_names}
 use Rattle.ledger.proofs.Laws.Files.{insert-directory, insert-file, names_at, names-set_place, names-node_without_place}
 use Rattle.ledger.proofs.Laws.Making.{made-same}
-use Rattle.ledger.specs.Spared.{is_naming, number_after_edit, ledger_next, number_next, number_after, IsSpared}
+use Rattle.ledger.specs.Spared.{is_file_of_edit, number_after_edit, ledger_next, number_next, number_after, IsSpared}
 
 number_after_insert-suc : (q k : ℕ) → number_after_insert (suc q) (suc k) ≡ suc (number_after_insert q k)
 number_after_insert-suc q k = omega (arith, number_after_insert-min (suc q) (suc k), number_after_insert-min q k)
@@ -42,7 +42,7 @@ Begun l f g nm = Holds new_history l.histories f g × Holds [] (file_names l.nod
 set_holds : (hs : List History) (f k : ℕ) (g x : History) → eqb f k ≡ false → Holds new_history hs f g → Holds new_history (set hs k x) f g
 set_holds hs f k g x e h = (rw (length-set hs k x) h.0, get_or-set_other hs k f x new_history (eqb-false f k e) ∙ h.1)
 
-spared-ledger_with : (ed : Edit) (l : Ledger) (f : ℕ) (g : History) (nm : List ℕ) → is_naming ed l f ≡ false → Begun l f g nm → Begun (ledger_with ed l) (number_after_edit ed l f) g nm
+spared-ledger_with : (ed : Edit) (l : Ledger) (f : ℕ) (g : History) (nm : List ℕ) → is_file_of_edit ed l f ≡ false → Begun l f g nm → Begun (ledger_with ed l) (number_after_edit ed l f) g nm
 spared-ledger_with (insert_file p new) l f g nm e b =
     let j : ℕ = files_before (new_number l.nodes p) l.nodes in
     (put-in-holds new_history j new_history l.histories f g b.0, rw (insert-file own_name p new 0 0 l.nodes) (put-in-holds [] j new (file_names l.nodes) f nm b.1))
@@ -53,7 +53,7 @@ spared-ledger_with (resize_file k n) l f g nm e b = (set_holds l.histories f (fi
 spared-ledger_with (fill_file k clip) l f g nm e b = (set_holds l.histories f (files_before k l.nodes) g _ e b.0, rw (names-set_place 0 (length clip) k l.nodes) b.1)
 spared-ledger_with rewrite l f g nm e b = b
 
-spared-next : (r : Report) (l : Ledger) (f : ℕ) (g : History) (nm : List ℕ) → (r.accepted ≡ true → is_naming r.edit l f ≡ false) → Begun l f g nm → Begun (ledger_next r l) (number_next r l f) g nm
+spared-next : (r : Report) (l : Ledger) (f : ℕ) (g : History) (nm : List ℕ) → (r.accepted ≡ true → is_file_of_edit r.edit l f ≡ false) → Begun l f g nm → Begun (ledger_next r l) (number_next r l f) g nm
 spared-next r l f g nm e b = go r.accepted refl
   where
     go : (a : Bool) → r.accepted ≡ a → Begun (cond a (ledger_with r.edit l) l) (cond a (number_after_edit r.edit l f) f) g nm

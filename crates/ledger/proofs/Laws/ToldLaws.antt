@@ -12,7 +12,7 @@ use Rattle.ledger.specs.Ledger.{History, Ledger, files_before, new_history, name
 use Rattle.ledger.specs.Inner.Files.{own_place, files_of, own_name, file_names}
 use Rattle.ledger.proofs.Laws.Files.{insert-directory, insert-file, names-set_place, files-set_place}
 use Rattle.ledger.proofs.Laws.Making.{made-same}
-use Rattle.ledger.specs.Spared.{is_naming, number_after_edit, ledger_next, number_next, number_after}
+use Rattle.ledger.specs.Spared.{is_file_of_edit, number_after_edit, ledger_next, number_next, number_after}
 use Rattle.ledger.proofs.Laws.SparedLaws.{Holds, put-in-holds}
 use Rattle.ledger.specs.Inner.Told.{is_named_in, Given, sized, clipped, given_by_edit, given_in, least_of, final_size, start_of, history_at, file_name_at, size_at, IsOfFile, OfFiles}
 
@@ -67,7 +67,7 @@ set_other : (hs : List History) (f k : ℕ) (x : History) → f < length hs → 
 set_other hs f k x h d = (rw (length-set hs k x) h, get_or-set_other hs k f x new_history d ∙ changed-none (get_or hs f new_history))
 
 -- an accepted edit
-history-ledger_with : (ed : Edit) (l : Ledger) (f : ℕ) → f < length l.histories → Holds new_history (ledger_with ed l).histories (number_after_edit ed l f) (changed (is_naming ed l f) (given_by_edit ed l f) (history_at l f))
+history-ledger_with : (ed : Edit) (l : Ledger) (f : ℕ) → f < length l.histories → Holds new_history (ledger_with ed l).histories (number_after_edit ed l f) (changed (is_file_of_edit ed l f) (given_by_edit ed l f) (history_at l f))
 history-ledger_with (insert_file p nm) l f h =
     put-in-holds new_history (files_before (new_number l.nodes p) l.nodes) new_history l.histories f _ (h, changed-none (history_at l f))
 history-ledger_with (insert_directory p nm) l f h = (h, changed-none (history_at l f))
@@ -167,10 +167,10 @@ unfolding final_size
 goes-no_region l f x = record { exists = x; history = changed-none (history_at l f); name = refl; size = refl }
 
 goes-next : (r : Report) (l : Ledger) (f : ℕ) → (r.accepted ≡ true → IsOfFile r.edit l) → Exists l f →
-    Goes l (ledger_next r l) f (number_next r l f) (r.accepted && is_naming r.edit l f) (cond r.accepted (given_by_edit r.edit l f) [])
+    Goes l (ledger_next r l) f (number_next r l f) (r.accepted && is_file_of_edit r.edit l f) (cond r.accepted (given_by_edit r.edit l f) [])
 goes-next r l f o x = go r.accepted refl
   where
-    go : (a : Bool) → r.accepted ≡ a → Goes l (cond a (ledger_with r.edit l) l) f (cond a (number_after_edit r.edit l f) f) (a && is_naming r.edit l f) (cond a (given_by_edit r.edit l f) [])
+    go : (a : Bool) → r.accepted ≡ a → Goes l (cond a (ledger_with r.edit l) l) f (cond a (number_after_edit r.edit l f) f) (a && is_file_of_edit r.edit l f) (cond a (given_by_edit r.edit l f) [])
     go true e =
         let h = history-ledger_with r.edit l f x.0 in
         let n = name-ledger_with r.edit l f _ (x.1, refl) in

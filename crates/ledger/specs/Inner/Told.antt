@@ -7,12 +7,12 @@ use Rattle.tree.specs.Lookup.{is_directory}
 use Rattle.edit_rules.specs.Edits.{Edit, insert_file, insert_directory, make_directories, move_file, resize_file, fill_file, rewrite}
 use Rattle.ledger.specs.Ledger.{History, Ledger, files_before, new_history, Report}
 use Rattle.ledger.specs.Inner.Files.{files_of, file_names}
-use Rattle.ledger.specs.Spared.{is_naming, ledger_next, number_next}
+use Rattle.ledger.specs.Spared.{is_file_of_edit, ledger_next, number_next}
 
 -- an accepted move, resize or fill of the list named file f
 unfoldable pub is_named_in : List Report → Ledger → ℕ → Bool
 is_named_in [] l f = false
-is_named_in (r ∷ reports) l f = (r.accepted && is_naming r.edit l f) || is_named_in reports (ledger_next r l) (number_next r l f)
+is_named_in (r ∷ reports) l f = (r.accepted && is_file_of_edit r.edit l f) || is_named_in reports (ledger_next r l) (number_next r l f)
 
 -- what an accepted edit gives a file: a size, or a clip
 pub data Given : Type 0 where

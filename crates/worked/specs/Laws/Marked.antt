@@ -171,7 +171,7 @@ pub record Marked : Type 0 where
 pub marked : Marked
 unfolding max_file_size_answer max_region_size_answer allocate_answer lookup_answer entry_answer open_file_answer max_size_from size_beside_free allocation_of is_power_among largest_rest better_of align_up verdict_of counted_verdict totals_verdict plan_move plan_resize table_verdict place_verdict limits is_shallow is_shallow_from dirs_open_at texts_of encode entries_bytes parent_of parent_below lookup follow components child_of first_child are_same_bytes set_place components_of units
 marked = record {
-  P1 = rw (opens, nodes, opens, free);
+  P1 = rw (opens, nodes, free);
   P2 = rw (opens, free);
   P3 = (rw (opens, free), refl);
   P4 = (rw (opens, nodes), refl);
