@@ -1,5 +1,5 @@
--- The edit that a value of `edit::Edit` asks for, and the clip that it brings. Assumes nothing: these are definitions.
-use Rattle.std.specs.Prelude.{ℕ, List, []}
+-- The edit that a value of `edit::Edit` asks for. Assumes nothing: these are definitions.
+use Rattle.std.specs.Prelude.{ℕ, List}
 use Rattle.edit_rules.specs.Edits as edits
 use Rattle.table_writing.specs.declared.kind.Kind.{Kind}
 use Rattle.table_writing.specs.declared.kind.Kind.TheVariants as kind
@@ -19,12 +19,3 @@ edit_of (edit.Resize file size) = edits.resize_file file size
 edit_of (edit.Fill file clip) = edits.fill_file file clip.now
 edit_of (edit.Insert new) = insertion new.kind new.parent new.name.now
 edit_of (edit.MakeDirectories start path) = edits.make_directories start path.now
-
--- the clip that fills a file; none for the other edits
-abbrev pub clip_of : Edit → List ℕ
-clip_of edit.Rewrite = []
-clip_of (edit.Move file offset) = []
-clip_of (edit.Resize file size) = []
-clip_of (edit.Fill file clip) = clip.now
-clip_of (edit.Insert new) = []
-clip_of (edit.MakeDirectories start path) = []

@@ -6,8 +6,8 @@ ghost use Rattle.edit_rules.specs.Edits.{plan_behind, plan_of, number_behind};
 ghost use Rattle.edit_rules.specs.Promise.{loan, only_verdict, IsEdited};
 ghost use Rattle.ledger.specs.Runs.{IsPassable};
 ghost use Rattle.edit.specs.Inner.Accounting.{account_with, IsAccountedFor};
-ghost use Rattle.edit.specs.Asked.{edit_of, clip_of};
-ghost use Rattle.edit.specs.Inner.Decides.{IsEditDecided};
+ghost use Rattle.edit.specs.Asked.{edit_of};
+ghost use Rattle.edit.specs.Inner.Decides.{IsEditDecided, clip_of};
 
 use crate::decision::Decision;
 use crate::new_entry::NewEntry;

@@ -15,7 +15,7 @@ use Rattle.refusal.specs.declared.Refusal.TheVariants.{EntryPastTable, Unrecogni
 use Rattle.refusal.specs.Refusal.{refuse}
 use Rattle.refusal.specs.Laws.Chains.{refuse-passed, first-passed}
 use Rattle.tree.specs.Table.{file, directory, count, kind, name_offset, offset_or_parent, size_or_next, name_at, node_with, node_at, nodes_from, entry_verdict, entries_verdict, top, dirs_open_at, dirs_with, next_verdict, walk}
-use Rattle.tree.specs.Faults.{first_refused, walk_refused, is_root_refused, are_texts_refused, refused_entry}
+use Rattle.tree.specs.Faults.{first_refused, walk_refused, is_refused_before_entries, is_refused_behind_entries, refused_entry}
 use Rattle.tree.proofs.Laws.FaultSteps.{stopped-here, stopped-later, stopped_none}
 use Rattle.tree.proofs.Laws.Steps.{walk_entry, walk-stop, walk-go, walk_end}
 use Rattle.table.specs.Inner.Reading.{IsInside, open_in, node_verdict}
@@ -159,23 +159,23 @@ sought_end tab c dirs k w h = sym (w.left ∙ stopped_none tab c dirs k c h)
 -- ---- the entry that a table is refused for, by the tests that led there
 
 module _ (tab : List ℕ) (words : ℕ) where
-  pub entry-of-root : is_root_refused tab ≡ true → None ≡ refused_entry tab words
+  pub entry-of-root : is_refused_before_entries tab ≡ true → None ≡ refused_entry tab words
   unfolding refused_entry
   entry-of-root e = rw e
 
-  module _ (root : is_root_refused tab ≡ false) where
+  module _ (root : is_refused_before_entries tab ≡ false) where
     pub entry-of-entries : is_err (entries_verdict tab 1 (count tab - 1)) ≡ true → refused_entry tab words ≡ first_refused tab 1 (count tab - 1)
     unfolding refused_entry
     entry-of-entries e = rw (root, e)
 
     module _ (entries : is_err (entries_verdict tab 1 (count tab - 1)) ≡ false) where
-      pub entry-of-texts : are_texts_refused tab (count tab) words ≡ true → None ≡ refused_entry tab words
+      pub entry-of-texts : is_refused_behind_entries tab (count tab) words ≡ true → None ≡ refused_entry tab words
       unfolding refused_entry
       entry-of-texts e = rw (root, entries, e)
 
-      pub entry-of-walk : are_texts_refused tab (count tab) words ≡ false → refused_entry tab words ≡ walk_refused tab (count tab) (count tab ∷ []) 1 (nodes_from tab (count tab) 1 (count tab - 1))
+      pub entry-of-walk : is_refused_behind_entries tab (count tab) words ≡ false → refused_entry tab words ≡ walk_refused tab (count tab) (count tab ∷ []) 1 (nodes_from tab (count tab) 1 (count tab - 1))
       unfolding refused_entry
       entry-of-walk e = rw (root, entries, e)
 
-pub root-passed : (tab : List ℕ) → 12 ≤ length tab → kind tab 0 ≡ 1 → count tab ≤ 16384 → is_root_refused tab ≡ false
+pub root-passed : (tab : List ℕ) → 12 ≤ length tab → kind tab 0 ≡ 1 → count tab ≤ 16384 → is_refused_before_entries tab ≡ false
 root-passed tab l k c = rw (le-ltb (length tab) 12 l, eq-eqb (kind tab 0) 1 k, le-ltb 16384 (count tab) c)

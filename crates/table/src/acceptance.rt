@@ -234,10 +234,12 @@ impl<'a> Entries<'a> {
         self.walk()
     }
 
-    // Whether one of those before the walk refuses the table.
-    // Kept: a question that one test asks, as `unended`.
-    fn are_texts_refused(&self, words: usize) -> bool
-        ensures { result ≡ faults.are_texts_refused self.now.table.now self.now.count words }
+    // Whether one of those before the walk refuses the table: its texts as a whole, the working words, a count
+    // of 0.
+    // Kept: a question that one test asks, as `is_unended`.
+    fn is_refused_behind_entries(&self, words: usize) -> bool
+        ensures { let table = self.now.table.now in
+            result ≡ faults.is_refused_behind_entries table self.now.count words }
     {
         self.is_unended()
             || TEXTS_LIMIT < self.table.len() - 12 * self.count
@@ -301,7 +303,7 @@ pub fn refused_entry(table: &[u8], words: usize) -> Option<u32>
         return first_refused(table, count);
     }
     let entries = Entries { table, count };
-    if entries.are_texts_refused(words) {
+    if entries.is_refused_behind_entries(words) {
         return None;
     }
     entries.walk_refused()

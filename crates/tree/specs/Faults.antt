@@ -16,18 +16,18 @@ walk_refused tab c dirs k (x ∷ xs) =
     else walk_refused tab c (dirs_with (dirs_open_at k dirs) x) (suc k) xs
 
 -- the root is refused, or there are too many entries
-abbrev pub is_root_refused : List ℕ → Bool
-is_root_refused tab = nat_lt (length tab) 12 || (not (kind tab 0 == 1) || nat_lt 16384 (count tab))
+abbrev pub is_refused_before_entries : List ℕ → Bool
+is_refused_before_entries tab = nat_lt (length tab) 12 || (not (kind tab 0 == 1) || nat_lt 16384 (count tab))
 
--- the texts of a table of c entries, the working words or a count of 0 are refused
-abbrev pub are_texts_refused : List ℕ → ℕ → ℕ → Bool
-are_texts_refused tab c words = is_unended tab c || (nat_lt 1048576 (length tab - 12 * c) || (nat_lt words (4 * (c + 2)) || size_or_next tab 0 == 0))
+-- a table of c entries is refused for its texts as a whole, for too few working words or for a count of 0
+abbrev pub is_refused_behind_entries : List ℕ → ℕ → ℕ → Bool
+is_refused_behind_entries tab c words = is_unended tab c || (nat_lt 1048576 (length tab - 12 * c) || (nat_lt words (4 * (c + 2)) || size_or_next tab 0 == 0))
 
--- in the order of `check`
+-- the entry that `check` refuses the table for, if it is one
 unfoldable pub refused_entry : List ℕ → ℕ → Option ℕ
 refused_entry tab words =
     let c = count tab in
-    if is_root_refused tab then None
+    if is_refused_before_entries tab then None
     else if is_err (entries_verdict tab 1 (c - 1)) then first_refused tab 1 (c - 1)
-    else if are_texts_refused tab c words then None
+    else if is_refused_behind_entries tab c words then None
     else walk_refused tab c (c ∷ []) 1 (nodes_from tab c 1 (c - 1))
