@@ -1,6 +1,7 @@
 -- The edits: their tests in order, and what they come to (RULES, Edits). Assumes nothing: these are
 -- definitions.
 use Rattle.std.specs.Prelude.{Result, Ok, Err, if◌then◌else◌, ◌==◌, nat_lt, nat_le, slice_index_or, is_err, is_ok}
+use Rattle.std.specs.Result.{result_and}
 use Rattle.refusal.specs.Refusal.{Verdict}
 use Rattle.std.specs.Prelude.{ℕ, ◌+◌, ◌-◌, ◌^◌, min, Bool, true, false, not, ◌&&◌, ◌||◌, List, [], ◌∷◌, length}
 use Rattle.endian.specs.Bytes.{put}
@@ -18,6 +19,7 @@ use Rattle.space.specs.Allocate.{allocation_of}
 use Rattle.space.specs.declared.totals.Totals.{Totals}
 use Rattle.space.specs.Totals.{totals_verdict, moved_totals}
 use Rattle.opened.specs.Opening.{opening, nodes_in, free_space_of, used_of, region_of, Disc, disc_of, free_of}
+use Rattle.opened.specs.Answers.{answer_behind}
 use Rattle.edit_rules.specs.Change.{Change, written_image, table_verdict, Plan, refused, nothing, change, filled}
 
 -- an edit, with its numbers and its name, path or clip
@@ -36,8 +38,7 @@ table_change nodes = record { nodes = nodes; old = no_region; place = no_region;
 
 -- a plan behind tests
 abbrev pub plan_behind : Verdict → Plan → Plan
-plan_behind (Ok _) p = p
-plan_behind (Err c) p = refused (Err c)
+plan_behind v p = answer_behind v (λ c. refused (Err c)) p
 
 -- ---- inserts: the new entry is the last child, and a file has offset and size 0
 
@@ -231,5 +232,4 @@ plan_number (change k c) = k
 plan_number (filled k clip p) = k
 
 abbrev pub number_behind : Verdict → ℕ → Result ℕ Refusal
-number_behind (Ok _) k = Ok k
-number_behind (Err c) k = Err c
+number_behind v k = result_and v (Ok k)
