@@ -55,7 +55,8 @@ open_file_answer image words k = file_answer (λ file. Ok (new_window file.offse
 
 -- `max_file_size` is `max_region_size` of the file's offset and size
 unfoldable pub max_file_size_answer : List ℕ → ℕ → ℕ → Result ℕ Refusal
-max_file_size_answer image words k = file_answer (λ file. max_region_size_answer image words file.offset file.size) (entry_answer image words k)
+max_file_size_answer image words k =
+    file_answer (λ file. max_region_size_answer image words file.offset file.size) (entry_answer image words k)
 
 unfoldable pub dol_verdict : List ℕ → ℕ → Verdict
 dol_verdict image words = first (opening image words) (dol_verdict_of image (dol_offset image))

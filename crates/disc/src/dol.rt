@@ -12,8 +12,8 @@ use refusal::Refusal;
 
 // The answer of an image that opened.
 fn dol_in(image: &[u8]) -> Result<DolFile, Refusal>
-    ensures { result
-        ≡ result_and (dol_verdict_of image.now (dol_offset image.now)) (Ok (dol_file_of image.now)) }
+    ensures { let verdict = dol_verdict_of image.now (dol_offset image.now) in
+        result ≡ result_and verdict (Ok (dol_file_of image.now)) }
 {
     let at = header::dol_offset(image);
     let answer = executable::dol::read(image, at as usize)?;

@@ -19,7 +19,6 @@ use Rattle.tree.specs.Table.{Node, name_of, empty_root, count, nodes_of, first_t
 use Rattle.tree.specs.Lookup.{first_child, child_of}
 use Rattle.tree.proofs.Laws.Accepted.{length-nodes_of}
 use Rattle.table.specs.Inner.Texts.{text_at}
-use Rattle.table.specs.Inner.Zeros.{is_with_zero}
 use Rattle.table.proofs.Nodes.{root-name}
 use Rattle.table.proofs.Ended.{name-there}
 
@@ -39,6 +38,9 @@ longer (zero ∷ s) [] h = absurd (h refl)
 longer (suc b ∷ s) [] h = refl
 longer (zero ∷ s) (y ∷ nm) h = refl
 longer (suc b ∷ s) (y ∷ nm) h = rw (longer s nm h) (and-false (eqb (suc b) y))
+
+abbrev is_with_zero : List ℕ → Bool
+is_with_zero nm = list_any (λ b. eqb b 0) nm
 
 exact : (s nm : List ℕ) → is_with_zero nm ≡ false → length nm ≤ length s → get_or s (length nm) 0 ≡ 0 → are_same_bytes (first_text s) nm ≡ are_same_bytes (take (length nm) s) nm
 unfolding are_same_bytes
@@ -77,10 +79,6 @@ module _ (tab nm : List ℕ) (at : ℕ) where
       rw (take-length nm) (exact (drop at tab) nm z (rw (length-drop at tab) h) (rw (get_or-drop at tab (length nm) 0) e))
 
 -- ---- a name with a zero byte
-
-pub zero-any : (nm : List ℕ) → is_with_zero nm ≡ list_any (λ b. eqb b 0) nm
-zero-any [] = refl
-zero-any (b ∷ nm) = ap (λ (t : Bool). eqb b 0 || t) (zero-any nm)
 
 names-differ : (tab nm : List ℕ) → is_with_zero nm ≡ true → (j : ℕ) → are_same_bytes (name_of (get_or (nodes_of tab) j empty_root)) nm ≡ false
 names-differ tab nm z zero = rw (root-name tab 0 refl) (zeroed [] nm z)

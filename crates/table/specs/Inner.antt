@@ -10,4 +10,3 @@ pub mod Reading
 pub mod Steps
 pub mod Texts
 pub mod Words
-pub mod Zeros

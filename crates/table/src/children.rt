@@ -1,12 +1,12 @@
 // The entries of a directory, by name.
-ghost use Rattle.std.specs.Prelude.{ℕ, ◌≡◌, false, ◌≤◌, ◌<◌, length, Some};
+ghost use Rattle.std.specs.Prelude.{ℕ, ◌≡◌, false, ◌≤◌, ◌<◌, length, Some, ◌==◌};
+ghost use Rattle.std.specs.List.{list_any};
 ghost use Rattle.endian.specs.Bytes.{are_same_bytes};
 ghost use Rattle.tree.specs.Table as table_of;
 ghost use Rattle.tree.specs.Table.{nodes_of};
 ghost use Rattle.tree.specs.Lookup.{child_of};
 ghost use Rattle.table.specs.Inner.Texts.{text_at};
 ghost use Rattle.table.specs.Inner.After.{after_of};
-ghost use Rattle.table.specs.Inner.Zeros.{is_with_zero};
 
 use crate::entries::Table;
 use crate::name;
@@ -16,7 +16,7 @@ use refusal::Refusal;
 // is not compared again, since entries can share a long text.
 fn has_name(table: &[u8], place: usize, differs: Option<usize>, name: &[u8]) -> bool
     requires inside { place ≤ length table.now }
-    requires no_zero { is_with_zero name.now ≡ false }
+    requires no_zero { list_any (λ b. b == 0) name.now ≡ false }
     requires unlike { (at : ℕ) → differs ≡ Some at
         → are_same_bytes (text_at table.now at) name.now ≡ false }
     ensures { result ≡ are_same_bytes (text_at table.now place) name.now }
@@ -45,7 +45,7 @@ impl<'a> Table<'a> {
     // step, and the same stop, as closures.
     fn child_named(&self, d: usize, name: &[u8]) -> Result<u32, Refusal>
         requires within { d < table_of.count self.now }
-        requires no_zero { is_with_zero name.now ≡ false }
+        requires no_zero { list_any (λ b. b == 0) name.now ≡ false }
         ensures { result ≡ child_of (nodes_of self.now) d name.now }
     {
         let table = self.bytes;

@@ -1,8 +1,8 @@
 // A text of a table compared with a name, and measured.
-ghost use Rattle.std.specs.Prelude.{◌≡◌, false, ◌+◌, ◌≤◌, ◌<◌, length};
+ghost use Rattle.std.specs.Prelude.{◌≡◌, false, ◌+◌, ◌≤◌, ◌<◌, length, ◌==◌};
+ghost use Rattle.std.specs.List.{list_any};
 ghost use Rattle.endian.specs.Bytes.{are_same_bytes};
 ghost use Rattle.table.specs.Inner.Texts.{text_at};
-ghost use Rattle.table.specs.Inner.Zeros.{is_with_zero};
 
 use crate::units;
 
@@ -10,7 +10,7 @@ use crate::units;
 // Kept: it answers a question that stands in a condition, and refuses nothing.
 pub fn text_is(table: &[u8], at: usize, name: &[u8]) -> bool
     requires inside { at ≤ length table.now }
-    requires no_zero { is_with_zero name.now ≡ false }
+    requires no_zero { list_any (λ b. b == 0) name.now ≡ false }
     ensures { result ≡ are_same_bytes (text_at table.now at) name.now }
 {
     let n = name.len();

@@ -12,7 +12,6 @@ use Rattle.tree.specs.Lookup.{is_directory}
 use Rattle.tree.specs.Insert.{set_place}
 use Rattle.tree.proofs.Laws.PlaceLaws.{set_place-sound}
 use Rattle.space.specs.declared.region.DiscRegion.{DiscRegion}
-use Rattle.space.specs.Used.{no_region}
 use Rattle.opened.specs.Opening.{nodes_in, opening, region_of}
 use Rattle.edit_rules.specs.Change.{Change, written_image}
 use Rattle.edit_rules.specs.Edits.{relocation_change, resize_change}
