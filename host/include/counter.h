@@ -26,7 +26,7 @@
  * alters the program.
  *
  * words, and for edits bytes, are working memory. Whatever they held, they are zero afterwards, on refusals too. With too little the call
- * returns 9:
+ * returns 9 (counter_fault and counter_report tell it):
  *
  *     words   4 * (n + 2) for an image with n entries (of the new table, if that has more). COUNTER_MOST_WORDS are enough for every image.
  *     bytes   as many as the new table has. No name is shared in it, so it may be larger than the table that is there: 12 for each entry,
@@ -140,14 +140,15 @@ uint32_t counter_open(const uint8_t *image, size_t image_len, uint32_t *words, s
  * 0 if it opens. answer[1]: what of the image that is about, with answer[2] and answer[3] as said here, and else 0:
  *
  *     0  nothing more to tell
- *     1  entry answer[2], the first behind the root that is refused: 5, 6, 9 for its depth, 10 to 13
+ *     1  entry answer[2], the first behind the root that this test refuses: 5, 6, 9 for its depth, 10 to 13 (a count of 0 names none)
  *     2  two used regions that share a byte, answer[2] and answer[3]: 14
  *     3  used region answer[2], which passes the disc end: 14
  *     4  section answer[2] of the program, 0 to 6 of text and 7 to 17 of data, the first whose offset + size passes 2^32 - 1: 24
  *
- * A used region is named by its file's number, COUNTER_OF_TABLE or COUNTER_OF_PROGRAM. Of the bytes up to the table's end, the program's
- * and each file's in table order, it is the first that passes the disc end or shares a byte with one before it. One that does both is told
- * as passing the disc end; else answer[2] is the first of those before it that it shares with. */
+ * A used region is named by its file's number, COUNTER_OF_TABLE or COUNTER_OF_PROGRAM. Of the bytes up to the table's end, the program
+ * where it is a region of its own, and each file that is not empty, in table order, it is the first that passes the disc end or shares a
+ * byte with one before it. One that does both is told as passing the disc end. Else answer[3] is it, and answer[2] the first of those
+ * before it that it shares with. */
 uint32_t counter_fault(const uint8_t *image, size_t image_len, uint32_t *words, size_t words_len, uint32_t answer[COUNTER_FAULT_SLOTS]);
 
 /* answer[2]: disc end, used total. */
