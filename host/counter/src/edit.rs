@@ -6,7 +6,7 @@ use crate::call::{Call, Wish};
 use crate::change::Change;
 use crate::disc::Disc;
 use crate::disk::{self, Watch};
-use crate::failure::{CANNOT_CREATE, Failure, INPUT_OUTPUT, INTERNAL, Outcome};
+use crate::failure::{CANNOT_CREATE, CUT, Failure, INPUT_OUTPUT, INTERNAL, Outcome};
 use crate::image::{Desk, Image};
 use crate::journal::{self, Journal, Owner, Plan, Totals};
 use crate::names;
@@ -163,8 +163,11 @@ fn carry_out(
     }
     signals::no_way_back().map_err(|e| stuck(&file, &path, &journal, &e))?;
     let answer = (trial.found, trial.record);
-    write(call, image, desk, &journal, trial.given, answer).inspect_err(|_| {
-        given_up(&file, &journal);
+    write(call, image, desk, &journal, trial.given, answer).inspect_err(|why| {
+        // The journal of an edit that may have written stays.
+        if why.status() != CUT {
+            given_up(&file, &journal);
+        }
     })?;
     progress.advance(written(&journal.plan.change));
     write_out(&file, &journal.plan.change, &progress)
@@ -231,13 +234,13 @@ fn write(
     let watch = Watch::new(image.bytes(), &change.spans());
     let got = call.with_clip(clip.bytes()).run(image.bytes_mut(), desk.lend(), &mut totals);
     watch.done(image.bytes());
-    match (got, totals) == (Ok(answer.0), answer.1) {
-        true => Ok(()),
-        false => Err(Failure::error(
-            INTERNAL,
-            format!("{}: libcounter answered otherwise than when it was tried", image.name),
-        )),
+    if (got, totals) == (Ok(answer.0), answer.1) {
+        return Ok(());
     }
+    // A refusal has written nothing.
+    let (status, more) = if got.is_err() { (INTERNAL, "") } else { (CUT, ": its journal is kept") };
+    let text = "libcounter answered otherwise than when it was tried";
+    Err(Failure::error(status, format!("{}: {text}{more}", image.name)))
 }
 
 fn no_journal(path: &Path, why: &io::Error) -> Failure {

@@ -34,12 +34,13 @@ pub fn first() -> String {
     }
     out.push_str(
         "\nAn edit, step by step\n\
-         \x20 counter check disc.iso                            does it open?\n\
-         \x20 cp disc.iso /media/other/before.iso               a copy, on another disk\n\
-         \x20 counter find disc.iso /text/msg.bin               how far can it grow?\n\
+         \x20 counter check disc.iso                                 does it open?\n\
+         \x20 cp disc.iso /mnt/before.iso && sync                    a copy, on another disk\n\
+         \x20 cmp disc.iso /mnt/before.iso                           is it whole?\n\
+         \x20 counter find disc.iso /text/msg.bin                    how far can it grow?\n\
          \x20 counter fill disc.iso /text/msg.bin new.bin --dry-run\n\
-         \x20 counter fill disc.iso /text/msg.bin new.bin       the file is new.bin now\n\
-         \x20 counter compare before.iso disc.iso --given LIST  no other file differs?\n\n\
+         \x20 counter fill disc.iso /text/msg.bin new.bin            the file is new.bin now\n\
+         \x20 counter compare /mnt/before.iso disc.iso --given LIST  no other file differs?\n\n\
          More: counter help ",
     );
     let subjects: Vec<&str> = SUBJECTS.iter().map(|(name, _)| *name).collect();
@@ -349,16 +350,16 @@ Safety
     clip that was kept, the file is exactly the clip. If that one is gone or spoiled and the file is
     not whole yet, nothing is written, and what to do is told. One that a cut leaves without a
     journal is of no use, and the next edit takes it away.
-  - While there is a journal, commands that only read refuse (78), unless they are told --as-is.
+  - While there is a journal, commands that only read refuse (78); all but `record` take --as-is.
   - A journal that is torn, or of another image, or of one that was changed since, is never applied;
     what to do is told. If you bring an image back from a copy, take its journal away; if you rename
     the image, rename the journal with it, and the clip that is kept. The FILE of a record (--record)
     may stay where it is: the journal names it by its absolute path. A journal is found by the
     image's name, after every symbolic link; by another hard link of the image it is not seen.
-  - Ctrl-C, a hang-up and a kill are answered at once: where nothing but free space was written yet,
-    the edit is given up, and header, table and files are as they were; from then on it is finished
-    first, and about how long that takes is told. Every other signal but SIGKILL waits until the edit
-    is done and synced. The program then says what became of it and ends by the signal.
+  - Ctrl-C, SIGHUP, SIGQUIT and SIGTERM are answered at once: where nothing but free space was
+    written yet, the edit is given up, and header, table and files are as they were; from then on it
+    is finished first, and about how long that takes is told. Every other signal but SIGKILL waits
+    until the edit is done and synced. The program then says what became of it and ends by the signal.
   - On a terminal an edit that takes more than a second tells how far it is.
   - A program (main.dol) that lies behind the table is used like a file, and no edit writes there.
     `info` and `free` tell where it lies.
@@ -404,7 +405,8 @@ fn statuses() -> String {
          \x20 74  input/output error; the disk is full\n\
          \x20 75  another program is using the image, or the record's FILE\n\
          \x20 77  not allowed: a read-only file or disk, or no permission\n\
-         \x20     64 to 75 and 77: an edit wrote nothing; header, table and files are as they were\n\
+         \x20     64 to 75 and 77: header, table and files are as they were; with 74 free space may hold\n\
+         \x20     part of a copy\n\
          \x20 76  the edit is written and synced, but its answer could not be printed\n\
          \x20 78  an edit was cut: the image may hold a part of it, and its journal is there;\n\
          \x20     `counter recover IMAGE` finishes the edit. Or only its record is not written yet: the\n\
