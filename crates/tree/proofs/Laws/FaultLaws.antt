@@ -172,3 +172,14 @@ none-named tab words h =
     check-in-stages tab words ∙
     none-in (root_verdict tab) (entries_verdict tab 1 (count tab - 1)) (whole_verdict tab words) _ _ _
     (refused-named tab 1 (count tab - 1)) (walk-named tab (count tab) (count tab ∷ []) 1 (nodes_from tab (count tab) 1 (count tab - 1))) (sym (refused-in-stages tab words) ∙ h)
+
+either-refuses : (r w : Verdict) → is_err (first r w) ≡ (is_err r || is_err w)
+either-refuses (Err c) w = refl
+either-refuses (Ok _) w = refl
+
+-- LAW: and it is refused just where one of the two guards holds
+pub none-guarded : (tab : List ℕ) (words : ℕ) → refused_entry tab words ≡ None → is_err (check tab words) ≡ (is_refused_before_entries tab || is_refused_behind_entries tab (count tab) words)
+none-guarded tab words h =
+    ap (λ (v : Verdict). is_err v) (none-named tab words h) ∙ either-refuses (root_verdict tab) (whole_verdict tab words) ∙
+    ap (λ (b : Bool). b || is_err (whole_verdict tab words)) (sym (root-tests tab)) ∙
+    ap (λ (b : Bool). is_refused_before_entries tab || b) (sym (whole-tests tab words))
