@@ -1,4 +1,4 @@
--- Which section an executable's header is refused for (FORMAT, The program).
+-- Which section an executable's header is refused for (RULES, What a refusal is about).
 use Rattle.std.specs.Prelude.{ℕ, ◌+◌, ◌-◌, ◌^◌, Bool, List, ◌++◌, length, Option, None, if◌then◌else◌, nat_lt}
 use Rattle.std.specs.List.{position_from, zip}
 use Rattle.executable.specs.declared.dol.DolHeader.{DolHeader}

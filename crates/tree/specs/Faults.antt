@@ -1,4 +1,4 @@
--- Which entry a table is refused for. None is named where it is its root, its size, its texts as a whole, or too few working words.
+-- Which entry a table is refused for: none for the root (a count of 0 too), too many entries, the texts as a whole, or too few working words.
 use Rattle.std.specs.Prelude.{ℕ, zero, suc, ◌+◌, ◌-◌, ◌*◌, Bool, not, ◌||◌, List, [], ◌∷◌, length, Option, None, Some, is_err, if◌then◌else◌, ◌==◌, nat_lt}
 use Rattle.refusal.specs.Refusal.{first}
 use Rattle.tree.specs.Table.{Node, name_of, kind, size_or_next, count, nodes_from, entry_verdict, entries_verdict, is_unended, dirs_open_at, dirs_with, name_verdict, next_verdict}
