@@ -95,6 +95,8 @@ impl<'a> Entries<'a> {
     // The name of entry k: its offset, whether its units are a name's, whether they are safe. Where its text
     // is fit, it is not looked at unit by unit. Elsewhere only a name that is refused, and so ends the walk,
     // is looked at to its end.
+    // Always inlined, as the two below: two walks call them, and a call for each entry is felt at opening.
+    #[inline(always)]
     fn name_verdict(&self, texts: &mut Survey<'_>, k: usize) -> Verdict
         requires within { k < self.now.count }
         requires same_table { texts.old.table ≡ self.now.table.now }
@@ -115,6 +117,7 @@ impl<'a> Entries<'a> {
     }
 
     // The next of entry k, if it is a directory, and then its depth.
+    #[inline(always)]
     fn next_verdict(&self, dirs: &Stack, k: usize) -> Verdict
         requires { k < self.now.count }
         ensures { let node = node_at self.now.table.now self.now.count k in
@@ -140,7 +143,6 @@ impl<'a> Entries<'a> {
     }
 
     // Entry k of the walk: its name, then its next.
-    // Always inlined: a call for each entry is felt at opening.
     #[inline(always)]
     fn node_verdict(&self, texts: &mut Survey<'_>, dirs: &Stack, k: usize) -> Verdict
         requires within { k < self.now.count }
