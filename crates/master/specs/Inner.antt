@@ -1,0 +1,2 @@
+-- Definitions that only inner contracts and laws need.
+pub mod Entries

@@ -1,0 +1,56 @@
+-- A new master: its tests in order, and every byte of it (RULES, A new master). Assumes nothing: these are definitions.
+use Rattle.std.specs.Prelude.{Ok, ℕ, ◌+◌, List, [], length, not, replicate, if◌then◌else◌, nat_lt, is_err}
+use Rattle.endian.specs.Bytes.{put}
+use Rattle.refusal.specs.declared.Refusal.TheVariants.{LimitOrMemory, NotEnoughSpace}
+use Rattle.refusal.specs.Refusal.{Verdict, refuse, first}
+use Rattle.header.specs.declared.value.DiscHeader.{DiscHeader}
+use Rattle.header.specs.Header.{blank_header, put_header}
+use Rattle.tree.specs.Table.{Node, encode, limits}
+use Rattle.wish_list.specs.Paths.{paths_in, list_verdict}
+use Rattle.wish_list.specs.Tree.{wishes, tree}
+use Rattle.placement.specs.Placement.{is_placeable, offsets_of}
+
+-- what is wished for
+pub record Master : Type 0 where
+  pub game_code : List ℕ
+  pub disc_end : ℕ
+  -- the paths, each ended by a zero byte, and the size of each file
+  pub paths : List ℕ
+  pub sizes : List ℕ
+
+-- the tree with the files at these offsets
+abbrev pub nodes_at : Master → List ℕ → List Node
+nodes_at m offsets = tree (wishes (paths_in m.paths) m.sizes offsets)
+
+-- the table has this size wherever the files lie
+abbrev pub table_size : Master → ℕ
+table_size m = length (encode (nodes_at m []))
+
+abbrev pub first_free : Master → ℕ
+first_free m = 0x440 + table_size m
+
+unfoldable pub nodes_of_master : Master → List Node
+nodes_of_master m = nodes_at m (offsets_of (first_free m) m.sizes)
+
+-- in a buffer of `room` bytes, with so many words and working bytes lent: the paths, then what an edit tests where it writes its
+-- table, and the buffer, then the place of the files
+unfoldable pub master_verdict : Master → ℕ → ℕ → ℕ → Verdict
+master_verdict m room words bytes =
+    first (list_verdict m.paths (length m.sizes))
+    (first (limits (nodes_at m []) words)
+    (refuse (nat_lt bytes (table_size m)) LimitOrMemory
+    (refuse (nat_lt room m.disc_end) LimitOrMemory
+    (refuse (not (is_placeable (first_free m) m.disc_end m.sizes)) NotEnoughSpace (Ok tt)))))
+
+-- ---- the image
+
+unfoldable pub header_of_master : Master → DiscHeader
+header_of_master m = record blank_header { game_code = m.game_code; fst_offset = 0x440; fst_size = table_size m; user_size = m.disc_end }
+
+-- header and table, and 0 in every other byte below the disc end; the bytes behind it stay
+unfoldable pub written_master : Master → List ℕ → List ℕ
+written_master m image = put (put_header (header_of_master m) (put image 0 (replicate m.disc_end 0))) 0x440 (encode (nodes_of_master m))
+
+-- a refused call leaves the image as it is
+unfoldable pub image_after : Master → List ℕ → ℕ → ℕ → List ℕ
+image_after m image words bytes = if is_err (master_verdict m (length image) words bytes) then image else written_master m image

@@ -1,0 +1,6 @@
+// The file table of a new master.
+#![tactic(auto)]
+
+pub fn probe(a: usize) -> usize {
+    a
+}
