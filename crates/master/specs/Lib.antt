@@ -1,2 +1,3 @@
 pub mod Master
+pub mod Theorem
 pub mod Inner

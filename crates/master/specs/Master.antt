@@ -32,15 +32,19 @@ first_free m = 0x440 + table_size m
 unfoldable pub nodes_of_master : Master → List Node
 nodes_of_master m = nodes_at m (offsets_of (first_free m) m.sizes)
 
--- in a buffer of `room` bytes, with so many words and working bytes lent: the paths, then what an edit tests where it writes its
--- table, and the buffer, then the place of the files
-unfoldable pub master_verdict : Master → ℕ → ℕ → ℕ → Verdict
-master_verdict m room words bytes =
+-- before the place of the files: the paths, then what an edit tests where it writes its table, and a buffer of `room` bytes that is
+-- shorter than the disc
+unfoldable pub before_place : Master → ℕ → ℕ → ℕ → Verdict
+before_place m room words bytes =
     first (list_verdict m.paths (length m.sizes))
     (first (limits (nodes_at m []) words)
     (refuse (nat_lt bytes (table_size m)) LimitOrMemory
-    (refuse (nat_lt room m.disc_end) LimitOrMemory
-    (refuse (not (is_placeable (first_free m) m.disc_end m.sizes)) NotEnoughSpace (Ok tt)))))
+    (refuse (nat_lt room m.disc_end) LimitOrMemory (Ok tt))))
+
+-- in a buffer of `room` bytes, with so many words and working bytes lent
+unfoldable pub master_verdict : Master → ℕ → ℕ → ℕ → Verdict
+master_verdict m room words bytes =
+    first (before_place m room words bytes) (refuse (not (is_placeable (first_free m) m.disc_end m.sizes)) NotEnoughSpace (Ok tt))
 
 -- ---- the image
 
@@ -52,5 +56,5 @@ unfoldable pub written_master : Master → List ℕ → List ℕ
 written_master m image = put (put_header (header_of_master m) (put image 0 (replicate m.disc_end 0))) 0x440 (encode (nodes_of_master m))
 
 -- a refused call leaves the image as it is
-unfoldable pub image_after : Master → List ℕ → ℕ → ℕ → List ℕ
-image_after m image words bytes = if is_err (master_verdict m (length image) words bytes) then image else written_master m image
+unfoldable pub image_with_master : Master → List ℕ → ℕ → ℕ → List ℕ
+image_with_master m image words bytes = if is_err (master_verdict m (length image) words bytes) then image else written_master m image
