@@ -1,3 +1,4 @@
 -- What follows from the definitions.
 pub mod Below
 pub mod Sound
+pub mod Shallow

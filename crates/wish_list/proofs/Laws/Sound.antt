@@ -14,7 +14,7 @@ unfoldable pub ends : ℕ → List (List ℕ) → List Wish → ℕ → List ℕ
 ends k before ws zero = (k + below 0 before ws) ∷ []
 ends k before ws (suc m) = (k + below (suc m) before ws) ∷ ends k before ws m
 
-top-ends : (k : ℕ) (before : List (List ℕ)) (ws : List Wish) (m : ℕ) → top (ends k before ws m) ≡ k + below m before ws
+pub top-ends : (k : ℕ) (before : List (List ℕ)) (ws : List Wish) (m : ℕ) → top (ends k before ws m) ≡ k + below m before ws
 unfolding ends
 top-ends k before ws zero = refl
 top-ends k before ws (suc m) = refl
@@ -25,7 +25,7 @@ length-ends k before ws zero = refl
 length-ends k before ws (suc m) = ap suc (length-ends k before ws m)
 
 -- at an entry before them all none is closed
-none-closed : (j k : ℕ) (before : List (List ℕ)) (ws : List Wish) (m : ℕ) → j < k → dirs_open_at j (ends k before ws m) ≡ ends k before ws m
+pub none-closed : (j k : ℕ) (before : List (List ℕ)) (ws : List Wish) (m : ℕ) → j < k → dirs_open_at j (ends k before ws m) ≡ ends k before ws m
 unfolding ends dirs_open_at
 none-closed j k before ws zero h = rw (lt-leb (k + below 0 before ws) j (omega arith))
 none-closed j k before ws (suc m) h = rw (lt-leb (k + below (suc m) before ws) j (omega arith))
