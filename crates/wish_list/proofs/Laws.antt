@@ -2,3 +2,4 @@
 pub mod Below
 pub mod Sound
 pub mod Shallow
+pub mod NameTexts
