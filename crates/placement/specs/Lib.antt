@@ -1,1 +1,3 @@
 pub mod Placement
+pub mod Places
+pub mod Theorem
