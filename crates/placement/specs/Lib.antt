@@ -1,2 +1,4 @@
 pub mod Places
 pub mod Placement
+pub mod Places
+pub mod Theorem

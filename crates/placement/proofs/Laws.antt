@@ -1,0 +1,7 @@
+-- What follows from the definitions.
+pub mod AtTheLimit
+pub mod Complete
+pub mod Exactly
+pub mod Passes
+pub mod Regions
+pub mod Sound
