@@ -1,4 +1,3 @@
 pub mod Places
 pub mod Placement
-pub mod Places
 pub mod Theorem
