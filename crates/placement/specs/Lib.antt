@@ -1,3 +1,4 @@
 pub mod Placement
 pub mod Places
 pub mod Theorem
+pub mod Inner

@@ -1,4 +1,4 @@
--- 21 exactly: the files do not fit if and only if there are no offsets at all at which they can be placed; and the least disc end is the least.
+-- Exactly: the files do not fit if and only if there are no offsets at all at which they can be placed; and the least disc end is the least.
 -- Assumes nothing.
 use Rattle.std.specs.Prelude.{ℕ, ◌≤◌, ◌≡◌, false, List}
 use Rattle.std.proofs.Common.{arith}
