@@ -1,7 +1,7 @@
 // Whether the files of a new master fit below the disc end, and the place of each.
-ghost use Rattle.std.specs.Prelude.{◌≡◌, ◌^◌, ◌<◌, ◌≤◌, ◌++◌, length, drop, IsTrue};
+ghost use Rattle.std.specs.Prelude.{◌≡◌, ◌^◌, ◌<◌, ◌≤◌, ◌++◌, length, drop};
 ghost use Rattle.placement.specs.Placement as placement_of;
-ghost use Rattle.placement.specs.Placement.{offsets_of};
+ghost use Rattle.placement.specs.Placement.{least_end, offsets_of};
 
 use crate::need::{need_of, whole_size};
 
@@ -31,13 +31,13 @@ fn offset_at(at: u64, size: u32) -> u32
     if size == 0 { 0 } else { at as u32 }
 }
 
-/// Places files of these sizes in bytes behind a table that ends at byte `table_end`, where they fit below
-/// `disc_end`: the offset of each. Further words of `offsets` stay.
-pub fn place(table_end: usize, disc_end: u32, sizes: &[u32], offsets: &mut [u32])
+/// Places files of these sizes in bytes behind a table that ends at byte `table_end`: the offset of each, in
+/// bytes from the start of the disc. Further words of `offsets` stay.
+pub fn place(table_end: usize, sizes: &[u32], offsets: &mut [u32])
     requires table { table_end < 2 ^ 32 }
     requires files { length sizes.now ≤ 16384 }
     requires room { length sizes.now ≤ length offsets.old }
-    requires placeable { IsTrue (placement_of.is_placeable table_end disc_end sizes.now) }
+    requires disc_end { least_end table_end sizes.now < 2 ^ 32 }
     ensures { offsets.new ≡ offsets_of table_end sizes.now ++ drop (length sizes.now) offsets.old }
 {
     let need = need_of(sizes);

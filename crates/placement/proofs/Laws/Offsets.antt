@@ -3,7 +3,8 @@ use Rattle.std.specs.Prelude.{ℕ, zero, suc, ◌+◌, ◌-◌, ◌<◌, ◌≤�
 use Rattle.std.proofs.Common.{⊎_elim, arith, add-one, lt-ltb, le-ltb}
 use Rattle.std.proofs.lemmas.List.Edits.{paste_more}
 use Rattle.refusal.specs.Laws.Tests.{lt-or-le}
-use Rattle.placement.specs.Placement.{whole_size, whole_total, is_placeable, offset_at, offsets_in_order, offsets_with_last, last_file, offsets_of}
+use Rattle.placement.specs.Placement.{whole_size, whole_total, least_end, is_placeable, offset_at, offsets_in_order, offsets_with_last, last_file, offsets_of}
+use Rattle.placement.proofs.Laws.Exactly.{least_end-is_placeable}
 use Rattle.placement.proofs.Laws.Passes.{sum-next}
 use Rattle.placement.proofs.Laws.Sound.{start-some, sound, length-with-last, empty-at-0}
 
@@ -124,8 +125,7 @@ unfolding offsets_of
 offset-of t ss i n a h c at =
     ⊎_elim (λ f. rw (f.1, f.0, offset-last (last_file ss) (whole_size t) ss (rw f.0 at h))) (λ f. rw f.1 (offset-next (last_file ss) (whole_size t) ss i n h f.0 c)) at
 
--- LAW: the offset of a file with a byte is one of 32 bits where the disc end is
-pub offset-fits : (t end : ℕ) (ss : List ℕ) (i n a : ℕ) → i < length ss → IsNext (last_file ss) (whole_size t) ss i n → LiesAt (last_file ss) (whole_size t) ss i n a →
-    is_placeable t end ss ≡ true → 0 < get_or ss i 0 → a ≤ end
-offset-fits t end ss i n a h c at fits z =
-    omega (arith, offsets-below t end ss fits i, offset-of t ss i n a h c at, start-some a (get_or ss i 0) z)
+-- LAW: and a file with a byte lies no further than the least disc end
+pub offset-least : (t : ℕ) (ss : List ℕ) (i n a : ℕ) → i < length ss → IsNext (last_file ss) (whole_size t) ss i n → LiesAt (last_file ss) (whole_size t) ss i n a → 0 < get_or ss i 0 → a ≤ least_end t ss
+offset-least t ss i n a h c at z =
+    omega (arith, offsets-below t (least_end t ss) ss (least_end-is_placeable t (least_end t ss) ss (omega arith)) i, offset-of t ss i n a h c at, start-some a (get_or ss i 0) z)

@@ -5,7 +5,7 @@ use Rattle.std.proofs.lemmas.List.{take_all}
 use Rattle.placement.specs.Placement.{whole_size, last_file, offsets_of}
 use Rattle.placement.proofs.Laws.Sound.{sum-holds}
 use Rattle.placement.proofs.Laws.Passes.{whole-bound, sum_bound, sum-room}
-use Rattle.placement.proofs.Laws.Offsets.{first_written-next, LiesAt, next_first, next-last, next-other, next-most, offset-of, offset-fits, length-offsets_of}
+use Rattle.placement.proofs.Laws.Offsets.{first_written-next, LiesAt, next_first, next-last, next-other, next-most, offset-of, offset-least, length-offsets_of}
 use Rattle.placement.proofs.placing.place.Goals as goal
 use Rattle.placement.proofs.placing.place.Goals.{then-i-need, else-i-need, then-i-need-2, else-i-need-2}
 
@@ -26,7 +26,7 @@ offset_at-requires c z =
       | then-i-need w ↦ inl (omega (arith, c.need_of-need.ensures.last), omega (arith, c.need_of-need.ensures.whole))
       | else-i-need w ↦ inr (λ e. w.if-i-need.false (omega (arith, c.need_of-need.ensures.last)), omega arith)
     ] in
-    omega (arith, offset-fits c.args.table_end c.args.disc_end c.args.sizes.now c.loop-i.i c.loop-i.next c.if-i-need.at c.loop-i-test.true c.loop-i.invariant.1 lies c.requires.placeable z)
+    omega (arith, c.requires.disc_end, offset-least c.args.table_end c.args.sizes.now c.loop-i.i c.loop-i.next c.if-i-need.at c.loop-i-test.true c.loop-i.invariant.1 lies z)
 
 pub overflow_add-next : goal.overflow_add-next
 overflow_add-next c =
