@@ -1,7 +1,12 @@
 // Where the files of a new master lie, and whether they fit.
 #![tactic(auto)]
 
+mod need;
+mod placing;
+
 ghost use Rattle.placement.specs.Theorem.{Complete, Sound, Exactly, EndsLeast, EmptyAtZero, LastLargest, PassesLayout};
+
+pub use placing::{is_placeable, place};
 
 // ---- Theorems, each the promise of a function that does nothing: what they say is in specs/Theorem.antt, and
 // why they hold in proofs/Laws/.

@@ -26,7 +26,7 @@ unfolding whole_total
 sum-multiple [] = refl
 sum-multiple (s ∷ ss) = omega (arith, whole_multiple s, sum-multiple ss)
 
-sum-holds : (ss : List ℕ) (k : ℕ) → whole_size (get_or ss k 0) ≤ whole_total ss
+pub sum-holds : (ss : List ℕ) (k : ℕ) → whole_size (get_or ss k 0) ≤ whole_total ss
 unfolding whole_total
 sum-holds [] k = unfold align_up in omega arith
 sum-holds (s ∷ ss) zero = omega arith
@@ -34,7 +34,7 @@ sum-holds (s ∷ ss) (suc k) = omega (arith, sum-holds ss k)
 
 -- ---- where a file begins
 
-start-some : (p s : ℕ) → 0 < s → offset_at p s ≡ p
+pub start-some : (p s : ℕ) → 0 < s → offset_at p s ≡ p
 start-some p s h = rw (ne_eqb s 0 (λ e. omega arith))
 
 start_none : (p s : ℕ) → s ≡ 0 → offset_at p s ≡ 0
@@ -97,7 +97,7 @@ unfolding offsets_in_order
 length-in-order p [] = refl
 length-in-order p (s ∷ ss) = omega (arith, length-in-order (p + whole_size s) ss)
 
-length-with-last : (k p : ℕ) (ss : List ℕ) → length (offsets_with_last k p ss) ≡ length ss
+pub length-with-last : (k p : ℕ) (ss : List ℕ) → length (offsets_with_last k p ss) ≡ length ss
 unfolding offsets_with_last
 length-with-last k p [] = refl
 length-with-last zero p (s ∷ ss) = omega (arith, length-in-order p ss)
@@ -133,7 +133,7 @@ last-largest (s ∷ ss) = go (leb (largest_rest ss) (unused_rest s)) refl (last-
 
 -- ---- LAW
 
-same-or-other : (i k : ℕ) → (i ≡ k) ⊎ (i ≡ k → ⊥)
+pub same-or-other : (i k : ℕ) → (i ≡ k) ⊎ (i ≡ k → ⊥)
 same-or-other i k = go (eqb i k) refl
   where
     go : (b : Bool) → eqb i k ≡ b → (i ≡ k) ⊎ (i ≡ k → ⊥)
