@@ -76,5 +76,5 @@ refused-exactly m room words bytes e = rw e (go (is_placeable (first_free m) m.d
     go : (t : Bool) → is_placeable (first_free m) m.disc_end m.sizes ≡ t →
         (refuse (not t) NotEnoughSpace (Ok tt) ≡ Err NotEnoughSpace → (offsets : List ℕ) → IsPlaced (first_free m) m.disc_end m.sizes offsets → ⊥) ×
         (((offsets : List ℕ) → IsPlaced (first_free m) m.disc_end m.sizes offsets → ⊥) → refuse (not t) NotEnoughSpace (Ok tt) ≡ Err NotEnoughSpace)
-    go true q = (λ z. let n : ◌≡◌ {A = ℕ} 0 1 = cc in absurd (omega arith), λ h. never_both _ (none-fits (first_free m) m.disc_end m.sizes h) q)
+    go true q = (λ z. let n : ◌≡◌ {A = ℕ} 0 1 = cc in absurd (omega arith), λ h. absurd (never_both _ q (none-fits (first_free m) m.disc_end m.sizes h)))
     go false q = (λ z. no-placement (first_free m) m.disc_end m.sizes q, λ h. refl)
