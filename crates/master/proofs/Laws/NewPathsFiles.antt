@@ -2,12 +2,13 @@
 use Rattle.std.specs.Prelude.{ℕ, zero, suc, ◌+◌, ◌<◌, ◌≡◌, refl, List, [], ◌∷◌, ◌++◌, length, drop, get_or}
 use Rattle.std.proofs.Common.{sym, ap, ◌∙◌, arith, append_assoc, length-drop}
 use Rattle.std.specs.List.{join_with_byte}
-use Rattle.std.proofs.lemmas.List.Splits.{join_with_byte-slice_split, length-slice_split}
+use Rattle.std.proofs.lemmas.List.Splits.{join_with_byte-slice_split}
 use mathlib.Core.List.{tail}
 use Rattle.tree.specs.Table.{Node, directory, empty_root}
-use Rattle.wish_list.specs.Paths.{is_slash, names_of}
+use Rattle.wish_list.specs.Paths.{names_of}
 use Rattle.wish_list.specs.Tree.{Wish, wishes, common, added, below, entries_from, entries_with, tree_from, tree}
 use Rattle.wish_list.proofs.Laws.Below.{AllNamed, common-less, below-nil, below-zero, length-entries_with, length-tree}
+use Rattle.wish_list.proofs.Laws.NameTexts.{wishes-named}
 use Rattle.master.specs.Inner.Entries.{front_of, paths_below, paths_with, entry_paths}
 use Rattle.master.specs.Theorem.{FileSeen, file_seen, files_from, files_in, files_wished}
 use Rattle.master.proofs.Laws.NewPaths.{Stands, HasPaths, stands-left, stands-right, paths-left, paths-right, length-paths_with, tree-stands, tree-paths}
@@ -17,14 +18,6 @@ use Rattle.master.proofs.Laws.NewPaths.{Stands, HasPaths, stands-left, stands-ri
 -- the names, joined by `/`, are the path
 pub join-names_of : (path : List ℕ) → join_with_byte 0x2F (names_of path) ≡ path
 join-names_of path = join_with_byte-slice_split 0x2F path
-
-pub named-names_of : (path : List ℕ) → 0 < length (names_of path)
-named-names_of path = omega (arith, length-slice_split is_slash path)
-
-pub named-wishes : (paths : List (List ℕ)) (sizes offsets : List ℕ) → AllNamed (wishes paths sizes offsets)
-unfolding wishes
-named-wishes [] sizes offsets = tt
-named-wishes (path ∷ paths) sizes offsets = (named-names_of path, named-wishes paths (tail sizes) (tail offsets))
 
 -- the first names, and the others behind them
 pub front-join : (n : ℕ) (names : List (List ℕ)) → n < length names → front_of n names ++ join_with_byte 0x2F (drop n names) ≡ join_with_byte 0x2F names
@@ -94,4 +87,4 @@ wished (path ∷ paths) sizes offsets = rw (join-names_of path, wished paths (ta
 
 -- LAW: path and size of each file are the wish list, wherever the files lie
 pub files-of-tree : (paths : List (List ℕ)) (sizes offsets : List ℕ) → files_in (tree (wishes paths sizes offsets)) ≡ files_wished paths sizes
-files-of-tree paths sizes offsets = files_in-tree (wishes paths sizes offsets) (named-wishes paths sizes offsets) ∙ wished paths sizes offsets
+files-of-tree paths sizes offsets = files_in-tree (wishes paths sizes offsets) (wishes-named paths sizes offsets) ∙ wished paths sizes offsets
