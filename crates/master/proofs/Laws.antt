@@ -2,3 +2,6 @@
 pub mod Written
 pub mod Opens
 pub mod AllListsFollow
+pub mod Parents
+pub mod NewPaths
+pub mod NewPathsFiles
