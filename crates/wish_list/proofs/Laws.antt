@@ -1,0 +1,5 @@
+-- What follows from the definitions.
+pub mod Below
+pub mod Sound
+pub mod Shallow
+pub mod NameTexts
