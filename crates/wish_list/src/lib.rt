@@ -4,6 +4,8 @@
 ghost use Rattle.std.specs.Prelude.{length, IsTrue, is_ok};
 ghost use Rattle.wish_list.specs.Paths.{list_verdict};
 
+pub mod paths;
+
 /// The paths and sizes of a new master's files, judged: each path is ended by a zero byte, and there is one for each size.
 pub struct WishList<'a> {
     /// The paths, each with its zero byte.
