@@ -3,6 +3,10 @@ use Rattle.std.specs.Prelude.{ℕ, zero, suc, ◌+◌, ◌<◌, ◌≤◌, ◌�
 use Rattle.std.proofs.Common.{ap, sym, ◌∙◌, ⊎_elim, arith, add-one}
 use Rattle.std.proofs.lemmas.Bool.{false≢true, eq-eqb, eqb-true}
 use Rattle.std.proofs.lemmas.Bool.Decides.{nat_tests}
+use Rattle.std.specs.Cmp.Lexicographic.{slice_partial_cmp}
+use Rattle.std.specs.Ordering.{MatchOrdering, nat_cmp, is_le, is_some_and}
+use Rattle.std.proofs.Common.{Ordering, Less, Equal, Greater, Some}
+use Rattle.std.proofs.lemmas.Cmp.{same_from_slice_cmp_tested, ranked}
 use Rattle.endian.specs.Bytes.{are_same_bytes}
 use Rattle.refusal.specs.Laws.Tests.{lt-or-eq-or-gt, is_false, same_test}
 use Rattle.wish_list.specs.Paths.{is_below, is_used_by}
@@ -31,11 +35,9 @@ module _ (x y : ℕ) (xs ys : List ℕ) where
   below-more h = grind (arith, nat_tests)
 
   common-same : x ≡ y → common_length (x ∷ xs) (y ∷ ys) ≡ suc (common_length xs ys)
-  unfolding common_length
   common-same h = grind (arith, nat_tests)
 
   common-less : x < y → common_length (x ∷ xs) (y ∷ ys) ≡ 0
-  unfolding common_length
   common-less h = grind (arith, nat_tests)
 
   used-same : x ≡ y → is_used_by (x ∷ xs) (y ∷ ys) ≡ is_used_by xs ys
@@ -97,17 +99,45 @@ unfolding are_same_bytes
 bytes-itself [] = refl
 bytes-itself (x ∷ path) = bytes-same x x path path refl ∙ bytes-itself path
 
+pub bytes-front : (path : List ℕ) (n : ℕ) → n < length path → are_same_bytes path (take n path) ≡ false
+unfolding are_same_bytes
+bytes-front [] n h = absurd (omega arith)
+bytes-front (x ∷ path) zero h = refl
+bytes-front (x ∷ path) (suc n) h = bytes-same x x path (take n path) refl ∙ bytes-front path n (omega arith)
+
+-- `<=` tests it the other way round
+pub le-below : (path last : List ℕ) (r : Bool) → r ≡ is_some_and is_le (slice_partial_cmp (λ x y. Some (nat_cmp x y)) path last) → r ≡ not (is_below last path)
+le-below = same_from_slice_cmp_tested nat_cmp is_le (λ xs ys. not (is_below ys xs)) refl (λ _ _. refl) (λ _ _. refl) step
+  where
+    step : (x y : ℕ) (xs ys : List ℕ) (o : Ordering) → o ≡ nat_cmp x y → MatchOrdering o (not (is_below (y ∷ ys) (x ∷ xs)) ≡ true) (not (is_below (y ∷ ys) (x ∷ xs)) ≡ not (is_below ys xs)) (not (is_below (y ∷ ys) (x ∷ xs)) ≡ false)
+    step x y xs ys Less e = ap not (below-more y x ys xs (ranked x y Less e))
+    step x y xs ys Equal e = ap not (below-same y x ys xs (sym (ranked x y Equal e)))
+    step x y xs ys Greater e = ap not (below-less y x ys xs (ranked x y Greater e))
+
+module _ (path last : List ℕ) (r : Bool) (e : r ≡ is_some_and is_le (slice_partial_cmp (λ x y. Some (nat_cmp x y)) path last)) where
+  pub below-if_not_le : r ≡ false → is_below last path ≡ true
+  below-if_not_le h = turned (is_below last path) (sym (le-below path last r e) ∙ h)
+    where
+      turned : (b : Bool) → not b ≡ false → b ≡ true
+      turned true h = refl
+      turned false h = sym h
+
+  pub not_below-if_le : r ≡ true → is_below last path ≡ false
+  not_below-if_le h = turned (is_below last path) (sym (le-below path last r e) ∙ h)
+    where
+      turned : (b : Bool) → not b ≡ true → b ≡ false
+      turned true h = sym h
+      turned false h = refl
+
 -- ---- what a path has in common with one before it
 
 pub common-within_last : (last path : List ℕ) → common_length last path ≤ length last
-unfolding common_length
 common-within_last [] path = omega arith
 common-within_last (x ∷ last) [] = omega arith
 common-within_last (x ∷ last) (y ∷ path) = let r = common-within_last last path in grind (arith, nat_tests)
 
 -- there is a byte behind it
 pub common-within : (last path : List ℕ) → is_below last path ≡ true → common_length last path < length path
-unfolding common_length
 common-within [] [] h = absurd (false≢true h)
 common-within [] (y ∷ path) h = omega arith
 common-within (x ∷ last) [] h = absurd (false≢true h)
@@ -116,8 +146,11 @@ common-within (x ∷ last) (y ∷ path) h =
     (λ (l : x < y). rw (common-less x y last path l) (omega arith))
     (λ (e : x ≡ y) p. let r = common-within last path p in rw (common-same x y last path e) (omega arith))
 
+pub within-if_not_le : (path last : List ℕ) (r : Bool) → r ≡ is_some_and is_le (slice_partial_cmp (λ x y. Some (nat_cmp x y)) path last) → r ≡ false →
+    (n : ℕ) → n ≡ common_length last path → n < length path
+within-if_not_le path last r e h n m = rw m (common-within last path (below-if_not_le path last r e h))
+
 pub take-common : (last path : List ℕ) (n : ℕ) → is_below last path ≡ true → n ≤ common_length last path → take n last ≡ take n path
-unfolding common_length
 take-common last path zero h m = refl
 take-common [] path (suc n) h m = absurd (omega arith)
 take-common (x ∷ last) [] (suc n) h m = absurd (omega arith)
@@ -130,7 +163,7 @@ take-common (x ∷ last) (y ∷ path) (suc n) h m =
 -- have in common, and the next byte is `/`
 pub used-common : (last path file : List ℕ) → is_below last path ≡ true → is_below last file ≡ false → is_used_by file last ≡ false →
     is_used_by file path ≡ (are_same_bytes file (take (common_length last path) last) && (slice_index path (common_length last path) == 0x2F))
-unfolding common_length are_same_bytes
+unfolding are_same_bytes
 used-common [] [] file h g u = absurd (false≢true h)
 used-common [] (y ∷ path) [] h g u = used-none y path
 used-common [] (y ∷ path) (z ∷ file) h g u = absurd (false≢true (sym g))
@@ -149,7 +182,7 @@ used-common (x ∷ last) (y ∷ path) (z ∷ file) h g u =
 -- LAW: a file that is not behind the last path is no longer front of the next path
 pub bytes-common : (last path file : List ℕ) (n : ℕ) → is_below last path ≡ true → is_below last file ≡ false → common_length last path < n → n ≤ length path →
     are_same_bytes file (take n path) ≡ false
-unfolding common_length are_same_bytes
+unfolding are_same_bytes
 bytes-common last path file zero h g m w = absurd (omega arith)
 bytes-common [] [] file (suc n) h g m w = absurd (omega arith)
 bytes-common [] (y ∷ path) [] (suc n) h g m w = refl

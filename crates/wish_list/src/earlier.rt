@@ -1,6 +1,6 @@
 // The paths that came before a path: whether it is behind them all, and whether one of them is used as a
 // directory.
-ghost use Rattle.std.specs.Prelude.{◌≡◌, ◌≤◌, ◌<◌, ℕ, List, [], ◌∷◌, length, false, slice_index_or};
+ghost use Rattle.std.specs.Prelude.{◌≡◌, ◌≤◌, ◌<◌, ℕ, List, [], ◌∷◌, length, false, ◌&&◌, ◌==◌, slice_index, slice_index_or};
 ghost use Rattle.std.specs.Result.{IfOk};
 ghost use Rattle.wish_list.specs.Inner.Earlier.{common_length, order_verdict, IsKept};
 
@@ -11,7 +11,7 @@ use tree::PATH_LIMIT;
 fn common_length(a: &[u8], b: &[u8]) -> usize
     ensures { result ≡ common_length a.now b.now }
 {
-    a.iter().zip(b).take_while(|(x, y)| x == y).count()
+    a.iter().zip(b.iter()).take_while(|(x, y)| x == y).count()
 }
 
 // Clears the marks from `from` up to `to`.
@@ -47,6 +47,16 @@ impl<'a> Earlier<'a> {
         }
     }
 
+    // Whether so many bytes of the last path are one of the paths, and the next byte of this path is `/`.
+    fn is_around(&self, path: &[u8], common: usize) -> bool
+        requires within { common < length path.now }
+        requires short { common ≤ 1024 }
+        ensures { result ≡ (slice_index_or self.now.marks common false
+            && slice_index path.now common == 0x2F) }
+    {
+        self.marks[common] && path[common] == b'/'
+    }
+
     /// Adds a path: 19 where it is not behind the last one, or where it uses one of them as a directory.
     pub fn add(&mut self, path: &'a [u8]) -> Verdict
         requires some { 0 < length path.now }
@@ -63,7 +73,7 @@ impl<'a> Earlier<'a> {
         // A path that is longer than this part and begins with it would be behind the last one, and one that
         // is shorter is no directory around the last one.
         let common = common_length(self.last, path);
-        if self.marks[common] && path[common] == b'/' {
+        if self.is_around(path, common) {
             return Err(Refusal::AlreadyExists);
         }
         clear(&mut self.marks, common + 1, path.len());

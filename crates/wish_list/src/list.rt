@@ -1,7 +1,9 @@
 // The wish list: its paths and sizes, judged.
 ghost use Rattle.std.specs.Prelude.{◌≡◌, Ok, Err, length, IsTrue, is_ok};
 ghost use Rattle.std.specs.Result.{IfOk, IfErr};
-ghost use Rattle.wish_list.specs.Paths.{ends_verdict, list_verdict};
+ghost use Rattle.std.specs.List.{list_all};
+ghost use Rattle.tree.specs.Table.{is_plain, is_safe};
+ghost use Rattle.wish_list.specs.Paths.{names_of, ends_verdict, list_verdict};
 ghost use Rattle.wish_list.specs.Inner.Earlier.{form_verdict};
 
 use crate::earlier::Earlier;
@@ -21,18 +23,33 @@ fn ends_verdict(bytes: &[u8], count: usize) -> Verdict
     Ok(())
 }
 
+// Whether each name in the path is safe.
+fn has_safe_names(path: &[u8]) -> bool
+    ensures { result ≡ list_all is_safe (names_of path.now) }
+{
+    path.split(|b| *b == b'/').all(|name| is_safe(name))
+}
+
+// Whether each name in the path is plain.
+fn has_plain_names(path: &[u8]) -> bool
+    ensures { result ≡ list_all is_plain (names_of path.now) }
+{
+    path.split(|b| *b == b'/').all(|name| is_plain(name))
+}
+
 // What a path by itself is refused for: 9 where it is too long, then 13 where a name in it is not safe, then
 // 12 where one is not plain.
+#[tactic(auto, unfolding(crate::specs::Inner::Earlier::form_verdict))]
 fn form_verdict(path: &[u8]) -> Verdict
     ensures { result ≡ form_verdict path.now }
 {
     if PATH_LIMIT < path.len() {
         return Err(Refusal::LimitOrMemory);
     }
-    if !path.split(|b| *b == b'/').all(|name| is_safe(name)) {
+    if !has_safe_names(path) {
         return Err(Refusal::UnsafeName);
     }
-    if !path.split(|b| *b == b'/').all(|name| is_plain(name)) {
+    if !has_plain_names(path) {
         return Err(Refusal::InvalidNameByte);
     }
     Ok(())

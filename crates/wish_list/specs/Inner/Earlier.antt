@@ -1,7 +1,7 @@
 -- The paths that came before, as they are kept: the last one, and how many of its bytes are one of them. Assumes nothing: these are
 -- definitions.
-use Rattle.std.specs.Prelude.{Ok, ℕ, suc, ◌≤◌, ◌≡◌, Bool, false, not, List, [], ◌∷◌, length, take, if◌then◌else◌, ◌==◌, nat_lt, slice_index_or}
-use Rattle.std.specs.List.{list_all, list_any}
+use Rattle.std.specs.Prelude.{Ok, ℕ, ◌≤◌, ◌≡◌, Bool, false, not, List, [], ◌∷◌, length, take, nat_eq, nat_lt, slice_index_or}
+use Rattle.std.specs.List.{list_all, list_any, common_prefix_len}
 use Rattle.endian.specs.Bytes.{are_same_bytes}
 use Rattle.refusal.specs.declared.Refusal.TheVariants.{LimitOrMemory, InvalidNameByte, UnsafeName, AlreadyExists}
 use Rattle.refusal.specs.Refusal.{Verdict, refuse}
@@ -28,10 +28,8 @@ order_verdict before path =
 -- ---- the paths before
 
 -- how many bytes two paths have in common, up to the first that differs
-unfoldable pub common_length : List ℕ → List ℕ → ℕ
-common_length [] ys = 0
-common_length (x ∷ xs) [] = 0
-common_length (x ∷ xs) (y ∷ ys) = if x == y then suc (common_length xs ys) else 0
+abbrev pub common_length : List ℕ → List ℕ → ℕ
+common_length a b = common_prefix_len nat_eq a b
 
 abbrev pub last_of : List (List ℕ) → List ℕ
 last_of [] = []
