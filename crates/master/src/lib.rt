@@ -34,8 +34,8 @@ impl<'a> Master<'a> {
             OnOk result (master_verdict master room words bytes ≡ Ok tt) }
         ensures refused { let master = master_of self.entry in
             IfErr result (λ cause. master_verdict master room words bytes ≡ Err cause) }
-        ensures paths { IfOk result (λ table. table.paths ≡ self.entry.paths) }
-        ensures sizes { IfOk result (λ table. table.sizes ≡ self.entry.sizes) }
+        ensures paths { IfOk result (λ table. table.paths.now ≡ self.entry.paths.now) }
+        ensures sizes { IfOk result (λ table. table.sizes.now ≡ self.entry.sizes.now) }
     {
         let list = WishList::new(self.paths, self.sizes)?;
         let table = NewTable::measure(&list, words)?;

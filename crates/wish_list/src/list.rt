@@ -93,6 +93,7 @@ fn list_verdict(paths: &[u8], count: usize) -> Verdict
 
 /// The paths and sizes of a new master's files, judged: each path is ended by a zero byte, and there is one
 /// for each size.
+#[derive(Drop)]
 pub struct WishList<'a> {
     /// The paths, each with its zero byte.
     pub paths: &'a [u8],
