@@ -1,11 +1,11 @@
 // A master made from a wish list: judged, placed, and written whole.
 #![tactic(auto)]
 
-ghost use Rattle.std.specs.Prelude.{◌≡◌, ◌+◌, ◌<◌, ◌≤◌, ◌^◌, Ok, Err, IfOk, IfErr, OnOk, length};
+ghost use Rattle.std.specs.Prelude.{◌≡◌, ◌+◌, ◌<◌, ◌≤◌, ◌^◌, Ok, Err, replicate, IfOk, IfErr, OnOk, length};
 ghost use Rattle.endian.specs.Bytes.{put};
 ghost use Rattle.header.specs.Header.{put_header};
 ghost use Rattle.opened.specs.Opening.{zeros};
-ghost use Rattle.master.specs.Master.{header_of_master, master_verdict, written_master, image_with_master};
+ghost use Rattle.master.specs.Master.{header_with, master_verdict, written_master, image_with_master};
 ghost use Rattle.master.specs.Asked.{master_of};
 
 use header::{DiscHeader, HEADER_LEN};
@@ -48,4 +48,23 @@ impl<'a> Master<'a> {
         }
         Ok(table)
     }
+}
+
+// Writes zeros below the disc end, and the header.
+fn write_blank(image: &mut [u8], game_code: [u8; 4], disc_end: u32, table_size: u32) -> Verdict
+    requires header { 0x440 ≤ disc_end }
+    requires room { disc_end ≤ length image.old }
+    ensures answer { result ≡ Ok tt }
+    ensures image_after { image.new
+        ≡ put_header (header_with game_code disc_end table_size) (put image.old 0 (replicate disc_end 0)) }
+{
+    image[..disc_end as usize].fill(0);
+    let header = DiscHeader {
+        game_code,
+        fst_offset: HEADER_LEN as u32,
+        fst_size: table_size,
+        user_size: disc_end,
+        ..DiscHeader::new()
+    };
+    header.write_to(image)
 }
