@@ -1,18 +1,18 @@
 -- The tests of a path and of all paths, in parts. Assumes nothing.
 use Rattle.std.specs.Prelude.{Ok, Err, ℕ, zero, suc, ◌+◌, ◌-◌, ◌<◌, ◌≤◌, ◌≡◌, refl, Bool, true, false, not, ◌||◌, ◌==◌, nat_lt, List, [], ◌∷◌, length, take, drop}
 use Rattle.std.specs.List.{list_all, count_by}
-use Rattle.std.proofs.Common.{ap, sym, ◌∙◌, arith, cond}
+use Rattle.std.proofs.Common.{sym, ◌∙◌, arith, cond}
 use Rattle.std.proofs.lemmas.List.{take_rest}
 use Rattle.std.proofs.lemmas.List.Sums.{sum_by-cons}
-use Rattle.std.proofs.lemmas.Bool.{false≢true, eqb-true}
+use Rattle.std.proofs.lemmas.Bool.{eqb-true}
 use Rattle.std.proofs.lemmas.Bool.Decides.{nat_tests}
 use Rattle.refusal.specs.declared.Refusal.{Refusal}
-use Rattle.refusal.specs.declared.Refusal.TheVariants.{MissingNullTerminator, LimitOrMemory, InvalidNameByte, UnsafeName, AlreadyExists}
+use Rattle.refusal.specs.declared.Refusal.TheVariants.{MissingNullTerminator, LimitOrMemory, InvalidNameByte, UnsafeName}
 use Rattle.refusal.specs.Refusal.{Verdict, refuse, first}
-use Rattle.refusal.specs.Laws.Chains.{refuse-passed, first-passed}
+use Rattle.refusal.specs.Laws.Chains.{refuse-passed}
 use Rattle.refusal.specs.Laws.Tests.{or-false}
 use Rattle.tree.specs.Table.{is_safe, is_plain}
-use Rattle.wish_list.specs.Paths.{paths_in, onto_path, is_zero, has_rest, names_of, ends_verdict, path_verdict, paths_verdict, list_verdict}
+use Rattle.wish_list.specs.Paths.{paths_in, is_zero, has_rest, names_of, ends_verdict, path_verdict, paths_verdict}
 use Rattle.wish_list.specs.Inner.Earlier.{form_verdict, order_verdict}
 use Rattle.wish_list.proofs.Cutting.{paths_in-more, is_zero-suc, length-onto_path}
 

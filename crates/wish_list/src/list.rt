@@ -93,7 +93,7 @@ fn list_verdict(paths: &[u8], count: usize) -> Verdict
 
 /// The paths and sizes of a new master's files, judged: each path is ended by a zero byte, and there is one
 /// for each size.
-#[derive(Drop)]
+#[derive(Clone, Copy, Debug, PartialEq, Eq)]
 pub struct WishList<'a> {
     /// The paths, each with its zero byte.
     pub paths: &'a [u8],
@@ -106,8 +106,7 @@ pub struct WishList<'a> {
 impl<'a> WishList<'a> {
     /// Judges the paths of files with these sizes.
     pub fn new(paths: &'a [u8], sizes: &'a [u32]) -> Result<Self, Refusal>
-        ensures refused {
-            IfErr result (λ cause. list_verdict paths.now (length sizes.now) ≡ Err cause) }
+        ensures refused { IfErr result (λ cause. list_verdict paths.now (length sizes.now) ≡ Err cause) }
         ensures accepted { IfOk result (λ _. list_verdict paths.now (length sizes.now) ≡ Ok tt) }
         ensures paths { IfOk result (λ list. list.paths.now ≡ paths.now) }
         ensures sizes { IfOk result (λ list. list.sizes.now ≡ sizes.now) }

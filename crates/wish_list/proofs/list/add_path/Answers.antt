@@ -2,7 +2,7 @@
 use Rattle.std.proofs.Common.{sym, ap, ◌∙◌}
 use Rattle.std.proofs.lemmas.Result.{err_from_is_err_and}
 use Rattle.refusal.specs.Refusal.{Verdict, first}
-use Rattle.wish_list.specs.Inner.Earlier.{form_verdict, order_verdict}
+use Rattle.wish_list.specs.Inner.Earlier.{order_verdict}
 use Rattle.wish_list.proofs.Judging.{path_verdict-parts, form-short, form-some}
 use Rattle.wish_list.proofs.list.add_path.Goals as goal
 

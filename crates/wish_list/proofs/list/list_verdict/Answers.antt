@@ -1,8 +1,7 @@
 -- `wish_list::list::list_verdict` meets its contract.
-use Rattle.std.proofs.Common.{sym, ap, ◌∙◌, length, []}
+use Rattle.std.proofs.Common.{sym, ◌∙◌}
 use Rattle.std.proofs.lemmas.Result.{err_from_is_err_and}
-use Rattle.refusal.specs.Refusal.{Verdict, first}
-use Rattle.wish_list.specs.Paths.{paths_in, paths_verdict, list_verdict}
+use Rattle.wish_list.specs.Paths.{list_verdict}
 use Rattle.wish_list.proofs.Judging.{ended-paths}
 use Rattle.wish_list.proofs.list.list_verdict.Goals as goal
 

@@ -19,8 +19,11 @@ loop-preserved c =
     let j = c.loop.invariant.judged in
     record {
       left = left-next rest path (take (length rest - k) (drop k rest)) e c.loop.counter c.args.count c.loop.invariant.left;
-      judged = (path ∷ j.0, c.in_ok-add_path.ensures.kept j.0 j.1,
-          judged-next rest path (take (length rest - k) (drop k rest)) e j.0 _ j.2 (sym (c.add_path.ensures.verdict j.0 j.1) ∙ c.in_ok-add_path.was))
+      judged = (
+        path ∷ j.0,
+        c.in_ok-add_path.ensures.kept j.0 j.1,
+        judged-next rest path (take (length rest - k) (drop k rest)) e j.0 _ j.2 (sym (c.add_path.ensures.verdict j.0 j.1) ∙ c.in_ok-add_path.was),
+      );
     }
 
 pub returns : goal.returns

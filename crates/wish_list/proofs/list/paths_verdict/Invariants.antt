@@ -7,5 +7,5 @@ use Rattle.wish_list.proofs.list.paths_verdict.Given as goal
 abbrev pub invariant-loop : goal.invariant-loop
 invariant-loop l = record {
   left : l.counter + length (paths_in l.rest) ≡ l.count;
-  judged : (before : List (List ℕ)) × IsKept before l.earlier.last.now l.earlier.marks × (paths_verdict [] (paths_in l.paths) ≡ paths_verdict before (paths_in l.rest))
+  judged : (before : List (List ℕ)) × IsKept before l.earlier.last.now l.earlier.marks × (paths_verdict [] (paths_in l.paths) ≡ paths_verdict before (paths_in l.rest));
 }
