@@ -51,6 +51,7 @@ impl<'a> Master<'a> {
 }
 
 // Writes zeros below the disc end, and the header.
+#[tactic(auto, unfolding(crate::specs::Master::header_with))]
 fn write_blank(image: &mut [u8], game_code: [u8; 4], disc_end: u32, table_size: u32) -> Verdict
     requires header { 0x440 ≤ disc_end }
     requires room { disc_end ≤ length image.old }
@@ -58,7 +59,7 @@ fn write_blank(image: &mut [u8], game_code: [u8; 4], disc_end: u32, table_size: 
     ensures image_after { image.new
         ≡ put_header (header_with game_code disc_end table_size) (put image.old 0 (replicate disc_end 0)) }
 {
-    image[..disc_end as usize].fill(0);
+    endian::fill(image, 0, disc_end as usize, 0);
     let header = DiscHeader {
         game_code,
         fst_offset: HEADER_LEN as u32,

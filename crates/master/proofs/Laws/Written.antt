@@ -138,7 +138,7 @@ module _ (m : Master) (image : List ℕ) (f : Fits m image) where
 
   pub table-new : table_of new ≡ tab
   unfolding table_of
-  table-new = rw (fst-offset-new, fst-size-new, ← f.size) (span-put head 0x440 tab table-fits)
+  table-new = rw (fst-offset-new, fst-size-new) (rw f.size at (span-put head 0x440 tab table-fits))
 
   -- ---- no program
 
