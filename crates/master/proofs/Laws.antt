@@ -1,3 +1,4 @@
 -- What follows from the definitions.
 pub mod Order
 pub mod OrderNames
+pub mod OrderEntries
