@@ -1,4 +1,6 @@
 -- What follows from the definitions.
+pub mod Parents
+pub mod NewPaths
 pub mod Order
 pub mod OrderNames
 pub mod OrderEntries
