@@ -4,3 +4,4 @@ pub mod NewPaths
 pub mod Order
 pub mod OrderNames
 pub mod OrderEntries
+pub mod FoundEntries
