@@ -5,3 +5,6 @@ pub mod Order
 pub mod OrderNames
 pub mod OrderEntries
 pub mod FoundEntries
+pub mod Siblings
+pub mod Found
+pub mod WishTree

@@ -1,18 +1,18 @@
 -- Each entry of a new tree is there for a file: it is that file, or a directory on its path that ends behind it; and each file has its entry.
 -- Assumes nothing.
-use Rattle.std.specs.Prelude.{ℕ, zero, suc, ◌+◌, ◌-◌, ◌<◌, ◌≤◌, ◌≡◌, refl, ◌⊎◌, true, false, List, [], ◌∷◌, ◌++◌, length, drop, get_or}
-use Rattle.std.proofs.Common.{sym, ap, ◌∙◌, ⊎_elim, arith, add-zero, length-append, length-drop}
-use Rattle.std.proofs.lemmas.List.{append_assoc, append-nil, get_or_append_left, get_or-append-add}
+use Rattle.std.specs.Prelude.{ℕ, zero, suc, ◌+◌, ◌-◌, ◌<◌, ◌≤◌, ◌≡◌, refl, true, false, List, [], ◌∷◌, ◌++◌, length, drop, get_or}
+use Rattle.std.proofs.Common.{sym, ap, ◌∙◌, ⊎_elim, arith, length-append, length-drop}
+use Rattle.std.proofs.lemmas.List.{append_assoc, get_or_append_left, get_or-append-add}
 use Rattle.refusal.specs.Laws.Tests.{lt-or-le}
 use Rattle.tree.specs.Table.{Node, file, directory, empty_root}
 use Rattle.tree.specs.Lookup.{is_directory, next_of}
 use Rattle.wish_list.specs.Paths.{names_of}
 use Rattle.wish_list.specs.Tree.{Wish, wishes, common, added, below, entries_from, entries_with, tree_from}
-use Rattle.wish_list.proofs.Laws.Below.{common-less, added-least, length-entries_from, length-entries_with}
+use Rattle.wish_list.proofs.Laws.Below.{common-less, added-least, length-entries_with}
 use Rattle.wish_list.proofs.Laws.NameTexts.{names_of-named}
 use Rattle.master.specs.Inner.Entries.{front_of, paths_below, paths_with, entry_paths}
-use Rattle.master.proofs.Laws.NewPaths.{length-paths_below, length-paths_with}
-use Rattle.master.proofs.Laws.Order.{Begins, begins-self}
+use Rattle.master.proofs.Laws.NewPaths.{length-paths_with}
+use Rattle.master.proofs.Laws.Order.{Begins}
 use Rattle.master.proofs.Laws.OrderNames.{joined, joined-names_of, joined-front}
 use mathlib.Core.List.{tail}
 

@@ -104,9 +104,9 @@ file-paths nodes k n next (name ∷ []) w ws some e f outer inner s =
     let p = around-path nodes k n next w.names ws (file name w.offset w.size) inner (omega arith) s.0 in (
       (rw (append-nil name) at p, tt),
       λ i h. rw m at (⊎_elim
-      (λ (b : i < n). around-later (outer i b) (next + below (suc i) w.names ws) (omega arith) (omega arith))
-      (λ (b : n ≤ i). let i≡ : i ≡ n = omega arith in rw i≡ (around-later inner (next + below (suc n) w.names ws) (omega arith) (omega arith)))
-      (lt-or-le i n)),
+          (λ (b : i < n). around-later (outer i b) (next + below (suc i) w.names ws) (omega arith) (omega arith))
+          (λ (b : n ≤ i). let i≡ : i ≡ n = omega arith in rw i≡ (around-later inner (next + below (suc n) w.names ws) (omega arith) (omega arith)))
+          (lt-or-le i n)),
     )
 file-paths nodes k n next (name ∷ inside ∷ names) w ws some e f outer inner s =
     let q : next_of (get_or nodes k empty_root) ≡ next + below (suc n) w.names ws = rw (s.0, f) refl in
@@ -121,11 +121,11 @@ file-paths nodes k n next (name ∷ inside ∷ names) w ws some e f outer inner 
       ends = λ j a b. absurd (omega arith);
     } in
     let r = file-paths nodes (suc k) (suc n) next (inside ∷ names) w ws (omega arith) (rest-more n w.names name (inside ∷ names) e) (omega arith)
-        (λ i h. ⊎_elim
-        (λ (b : i < n). around-later (outer i b) (next + below (suc i) w.names ws) (omega arith) (omega (arith, below-least (suc i) (suc n) w.names ws (omega arith))))
-        (λ (b : n ≤ i). let i≡ : i ≡ n = omega arith in rw i≡ (around-later inner (next + below (suc n) w.names ws) (omega arith) (omega arith)))
-        (lt-or-le i n))
-        new s.1 in
+    (λ i h. ⊎_elim
+    (λ (b : i < n). around-later (outer i b) (next + below (suc i) w.names ws) (omega arith) (omega (arith, below-least (suc i) (suc n) w.names ws (omega arith))))
+    (λ (b : n ≤ i). let i≡ : i ≡ n = omega arith in rw i≡ (around-later inner (next + below (suc n) w.names ws) (omega arith) (omega arith)))
+    (lt-or-le i n))
+    new s.1 in
     ((p, rw m at r.0), r.1)
 
 -- ---- file by file
@@ -155,11 +155,11 @@ tree_from-paths nodes k before (w ∷ ws) named a s =
     let m : c ≤ length before - 1 = common-most before w.names in
     let out : k + below (suc c) before (w ∷ ws) ≡ k = omega (arith, below-out (suc c) before w ws (omega arith)) in
     let r = file-paths nodes k c next (drop c w.names) w ws (omega (arith, common-less before w.names named.0)) refl (omega arith)
-        (λ i h.
-        let b : k + below (suc i) before (w ∷ ws) ≡ next + below (suc i) w.names ws = omega (arith, below-in (suc i) before w ws (omega arith)) in
-        rw b at (around-next nodes k next before w ws i (k + below (suc i) before (w ∷ ws)) refl (omega arith) (a i (omega arith))))
-        (rw out at (around-next nodes k next before w ws c (k + below (suc c) before (w ∷ ws)) refl (omega arith) (a c m)))
-        (stands-left nodes k (entries_with k before w ws) (tree_from next w.names ws) s) in
+    (λ i h.
+    let b : k + below (suc i) before (w ∷ ws) ≡ next + below (suc i) w.names ws = omega (arith, below-in (suc i) before w ws (omega arith)) in
+    rw b at (around-next nodes k next before w ws i (k + below (suc i) before (w ∷ ws)) refl (omega arith) (a i (omega arith))))
+    (rw out at (around-next nodes k next before w ws c (k + below (suc c) before (w ∷ ws)) refl (omega arith) (a c m)))
+    (stands-left nodes k (entries_with k before w ws) (tree_from next w.names ws) s) in
     paths-append nodes k next (paths_with before w.names) (entry_paths w.names ws) (omega (arith, length-paths_with before w.names)) r.0
     (tree_from-paths nodes next w.names ws named.1 r.1
     (stands-right nodes k next (entries_with k before w ws) (tree_from next w.names ws) (omega (arith, length-entries_with k before w ws)) s))

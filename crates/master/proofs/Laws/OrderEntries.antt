@@ -1,9 +1,9 @@
 -- The paths of accepted wishes rise, and so do those of all entries of their tree; no file is used as a directory. Assumes nothing.
-use Rattle.std.specs.Prelude.{ℕ, zero, suc, ◌+◌, ◌-◌, ◌<◌, ◌≤◌, ◌≡◌, refl, Bool, true, false, ◌||◌, List, [], ◌∷◌, ◌++◌, length, drop, get_or, nat_eq}
+use Rattle.std.specs.Prelude.{ℕ, zero, suc, ◌+◌, ◌-◌, ◌<◌, ◌≡◌, refl, true, false, List, [], ◌∷◌, ◌++◌, length, drop, get_or}
 use Rattle.std.specs.List.{list_any}
 use Rattle.std.proofs.Common.{sym, ap, ◌∙◌, arith, add-zero, length-drop}
 use Rattle.std.proofs.lemmas.Bool.{false≢true}
-use Rattle.std.proofs.lemmas.List.{append_assoc, append-nil, get_or-drop}
+use Rattle.std.proofs.lemmas.List.{append_assoc, get_or-drop}
 use Rattle.refusal.specs.Laws.Tests.{or-false}
 use Rattle.tree.specs.Table.{is_safe}
 use Rattle.tree.specs.Inner.WellFormed.{IsGoodName}
@@ -14,7 +14,7 @@ use Rattle.wish_list.proofs.Laws.Sound.{AllGoodNames}
 use Rattle.wish_list.proofs.Laws.NameTexts.{names_of-named}
 use Rattle.wish_list.proofs.Laws.AcceptedPaths.{HasPassed, HaveAllPassed, names_of-good}
 use Rattle.master.specs.Inner.Entries.{front_of, paths_below, paths_with, entry_paths}
-use Rattle.master.proofs.Laws.Order.{Begins, begins-self, below-trans, below-longer, below-front}
+use Rattle.master.proofs.Laws.Order.{Begins, below-trans, below-longer, below-front}
 use Rattle.master.proofs.Laws.OrderNames.{AllWhole, joined, joined-names_of, names_of-whole, joined-front, front_of-more, common-last}
 use mathlib.Core.List.{tail}
 

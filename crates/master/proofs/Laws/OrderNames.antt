@@ -1,14 +1,14 @@
 -- A path and its names: joined they are the path, and the directories that a file does not share with the file before it are not on that
 -- one's path. Assumes nothing.
 use Rattle.std.specs.Prelude.{ℕ, zero, suc, ◌<◌, ◌≡◌, refl, Bool, true, false, cond, List, [], ◌∷◌, ◌++◌, length, drop, eqb, get_or}
-use Rattle.std.specs.List.{slice_split, onto_first, join_with_byte}
-use Rattle.std.proofs.Common.{sym, ap, ◌∙◌, arith}
+use Rattle.std.specs.List.{onto_first, join_with_byte}
+use Rattle.std.proofs.Common.{sym, ◌∙◌, arith}
 use Rattle.std.proofs.lemmas.Bool.{false≢true}
 use Rattle.std.proofs.lemmas.List.{append_assoc}
 use Rattle.std.proofs.lemmas.List.Splits.{join_with_byte-slice_split}
 use Rattle.endian.specs.Bytes.{are_same_bytes}
 use Rattle.endian.specs.Laws.Stored.{same_refl}
-use Rattle.wish_list.specs.Paths.{is_slash, names_of}
+use Rattle.wish_list.specs.Paths.{names_of}
 use Rattle.wish_list.specs.Tree.{common}
 use Rattle.master.specs.Inner.Entries.{front_of}
 use Rattle.master.proofs.Laws.Order.{Begins}
