@@ -1,6 +1,10 @@
 -- What follows from the definitions.
+pub mod Written
+pub mod Opens
+pub mod AllListsFollow
 pub mod Parents
 pub mod NewPaths
+pub mod NewPathsFiles
 pub mod Order
 pub mod OrderNames
 pub mod OrderEntries

@@ -1,5 +1,5 @@
 -- The paths of a wish list and their tests in order (RULES, A new master). Assumes nothing: these are definitions.
-use Rattle.std.specs.Prelude.{Ok, ℕ, zero, suc, Bool, not, ◌&&◌, ◌||◌, List, [], ◌∷◌, ◌++◌, length, if◌then◌else◌, ◌==◌, nat_eq, nat_lt, true, slice_index, ◌-◌}
+use Rattle.std.specs.Prelude.{Ok, ℕ, Bool, not, ◌&&◌, ◌||◌, List, [], ◌∷◌, ◌++◌, length, if◌then◌else◌, ◌==◌, nat_eq, nat_lt, true, slice_index, ◌-◌}
 use Rattle.std.specs.List.{list_all, list_any, count_by, slice_split, starts_with}
 use Rattle.std.specs.Cmp.Lexicographic.{slice_cmp}
 use Rattle.std.specs.Ordering.{nat_cmp, is_lt}

@@ -2,10 +2,10 @@
 use Rattle.std.specs.Prelude.{ℕ, zero, suc, ◌+◌, ◌-◌, ◌<◌, ◌≤◌, ◌≡◌, refl, List, [], ◌∷◌, ◌++◌, length, drop, get_or}
 use Rattle.std.proofs.Common.{sym, ap, ◌∙◌, ⊎_elim, arith, add-zero, one-add, append_assoc, append-nil, length-append, length-drop}
 use Rattle.refusal.specs.Laws.Tests.{lt-or-le}
-use Rattle.tree.specs.Table.{Node, file, directory, empty_root}
+use Rattle.tree.specs.Table.{Node, file, directory, name_of, empty_root, parent_of}
 use Rattle.tree.specs.Lookup.{next_of}
-use Rattle.listing.specs.Lines.{path_of}
-use Rattle.listing.proofs.Paths.{path-root}
+use Rattle.listing.specs.Lines.{ending, path_of}
+use Rattle.listing.proofs.Paths.{path-root, path-step}
 use Rattle.wish_list.specs.Tree.{Wish, common, added, below, entries_from, entries_with, tree_from, tree}
 use Rattle.wish_list.proofs.Laws.Below.{AllNamed, common-less, common-most, below-in, below-out, below-zero, below-nil, length-entries_with, length-tree}
 use Rattle.master.specs.Inner.Entries.{front_of, paths_below, paths_with, entry_paths}
@@ -37,6 +37,16 @@ pub paths-append : (nodes : List Node) (k m : ℕ) (ps qs : List (List ℕ)) →
 unfolding HasPaths
 paths-append nodes k m [] qs e s t = let k≡ : k ≡ m = omega arith in rw k≡ t
 paths-append nodes k m (p ∷ ps) qs e s t = (s.0, paths-append nodes (suc k) m ps qs (omega arith) s.1 t)
+
+pub paths-left : (nodes : List Node) (k : ℕ) (ps qs : List (List ℕ)) → HasPaths nodes k (ps ++ qs) → HasPaths nodes k ps
+unfolding HasPaths
+paths-left nodes k [] qs s = tt
+paths-left nodes k (p ∷ ps) qs s = (s.0, paths-left nodes (suc k) ps qs s.1)
+
+pub paths-right : (nodes : List Node) (k m : ℕ) (ps qs : List (List ℕ)) → k + length ps ≡ m → HasPaths nodes k (ps ++ qs) → HasPaths nodes m qs
+unfolding HasPaths
+paths-right nodes k m [] qs e s = let k≡ : k ≡ m = omega arith in rw k≡ at s
+paths-right nodes k m (p ∷ ps) qs e s = paths-right nodes (suc k) m ps qs (omega arith) s.1
 
 pub path-at : (nodes : List Node) (k : ℕ) (ps : List (List ℕ)) (i : ℕ) → HasPaths nodes k ps → i < length ps → path_of nodes (k + i) ≡ 0x2F ∷ get_or ps i []
 unfolding HasPaths
@@ -82,9 +92,9 @@ entries-paths-length ws = length-tree ws ∙ ap suc (sym (length-entry_paths [] 
 -- ---- the entries of one file
 
 rest-more : {A : Type 0} (n : ℕ) (xs : List A) (x : A) (ys : List A) → drop n xs ≡ x ∷ ys → drop (suc n) xs ≡ ys
-rest-more zero [] x ys e = absurd (let z : ◌≡◌ {A = ℕ} 0 1 = cc in omega arith)
+rest-more zero [] x ys e = cc
 rest-more zero (y ∷ xs) x ys e = cc
-rest-more (suc n) [] x ys e = absurd (let z : ◌≡◌ {A = ℕ} 0 1 = cc in omega arith)
+rest-more (suc n) [] x ys e = cc
 rest-more (suc n) (y ∷ xs) x ys e = rest-more n xs x ys e
 
 -- the directories around its last entry, where the entries behind it start
@@ -191,3 +201,8 @@ tree-paths ws named = tree_from-paths (tree ws) 1 [] ws named (root_around ws) (
 -- LAW: the same, entry by entry
 pub path_of-tree : (ws : List Wish) (k : ℕ) → AllNamed ws → k < length (entry_paths [] ws) → path_of (tree ws) (suc k) ≡ 0x2F ∷ get_or (entry_paths [] ws) k []
 path_of-tree ws k named h = rw one-add at (path-at (tree ws) 1 (entry_paths [] ws) k (tree-paths ws named) h)
+
+-- LAW: it is the path of the directory that the entry is nested in, and its name
+pub path-parent : (ws : List Wish) (k : ℕ) → AllNamed ws → k < length (entry_paths [] ws) →
+    0x2F ∷ get_or (entry_paths [] ws) k [] ≡ path_of (tree ws) (parent_of (tree ws) (suc k)) ++ (name_of (get_or (tree ws) (suc k) empty_root) ++ ending (get_or (tree ws) (suc k) empty_root))
+path-parent ws k named h = sym (path_of-tree ws k named h) ∙ path-step (tree ws) (suc k) (omega arith)

@@ -17,9 +17,9 @@ use Rattle.master.specs.Inner.Entries.{front_of}
 
 pub front-more : (n : ℕ) (names : List (List ℕ)) (name : List ℕ) (rest : List (List ℕ)) → drop n names ≡ name ∷ rest → front_of (suc n) names ≡ front_of n names ++ (name ++ (0x2F ∷ []))
 unfolding front_of
-front-more zero [] name rest e = absurd (let z : ◌≡◌ {A = ℕ} 0 1 = cc in omega arith)
+front-more zero [] name rest e = cc
 front-more zero (x ∷ xs) name rest e = let x≡ : x ≡ name = cc in rw x≡
-front-more (suc n) [] name rest e = absurd (let z : ◌≡◌ {A = ℕ} 0 1 = cc in omega arith)
+front-more (suc n) [] name rest e = cc
 front-more (suc n) (x ∷ xs) name rest e = rw (front-more n xs name rest e, append_assoc x (0x2F ∷ front_of n xs) (name ++ (0x2F ∷ [])))
 
 -- two files have the names of the directories that both are in
