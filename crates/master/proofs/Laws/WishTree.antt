@@ -1,5 +1,5 @@
 -- The tree of an accepted wish list: its directories stand just before their first files, and each file is found by its path. Assumes nothing.
-use Rattle.std.specs.Prelude.{ℕ, zero, suc, ◌<◌, ◌≤◌, ◌≡◌, refl, true, false, List, [], ◌∷◌, ◌++◌, length, get_or, nat_eq}
+use Rattle.std.specs.Prelude.{Ok, ℕ, zero, suc, ◌<◌, ◌≤◌, ◌≡◌, refl, true, false, List, [], ◌∷◌, ◌++◌, length, get_or, nat_eq}
 use Rattle.std.specs.List.{starts_with}
 use Rattle.std.proofs.Common.{sym, ap, ◌∙◌, ⊎_elim, arith}
 use Rattle.std.proofs.lemmas.Bool.{false≢true}
@@ -8,10 +8,16 @@ use Rattle.tree.specs.Table.{Node, file, empty_root}
 use Rattle.tree.specs.Inner.WellFormed.{IsWellFormed}
 use Rattle.tree.specs.Lookup.{is_directory}
 use Rattle.listing.specs.Lines.{path_of}
+use Rattle.wish_list.specs.Paths.{paths_in, list_verdict}
 use Rattle.wish_list.specs.Tree.{Wish, wishes, tree_from, tree}
-use Rattle.wish_list.proofs.Laws.AcceptedPaths.{HaveAllPassed}
+use Rattle.wish_list.proofs.Laws.AcceptedPaths.{HaveAllPassed, IsAccepted, list-accepted, accepted-sound}
+use Rattle.placement.specs.Placement.{offsets_of}
+use Rattle.placement.proofs.Laws.Offsets.{offsets-below}
 use Rattle.master.specs.Inner.Entries.{entry_paths}
-use Rattle.master.specs.Theorem.{IsFirstBelow, IsFound}
+use Rattle.master.specs.Master.{Master, first_free, nodes_of_master}
+use Rattle.master.specs.Theorem.{IsGranted, IsFirstBelow, IsFound, TreeIsWishList, EachIsFound}
+use Rattle.master.proofs.Laws.Opens.{passed, placeable}
+use Rattle.master.proofs.Laws.NewPathsFiles.{files-of-tree}
 use Rattle.master.proofs.Laws.Order.{begins-test, test-begins, below-not_behind}
 use Rattle.master.proofs.Laws.FoundEntries.{IsFor, entry-for, entry-of}
 use Rattle.master.proofs.Laws.Siblings.{node-past_root, length-past_root, text-past_root, texts-rise, siblings-differ}
@@ -93,3 +99,37 @@ module _ (paths : List (List ℕ)) (sizes offsets : List ℕ) (passed : HaveAllP
         name = g.name;
         lies = n;
       }
+
+-- ---- a list that is granted
+
+module _ (m : Master) (room words bytes : ℕ) (g : IsGranted m room words bytes) where
+  listed : list_verdict m.paths (length m.sizes) ≡ Ok tt
+  listed = (passed m room words bytes g).listed
+
+  accepted : IsAccepted m.paths (length m.sizes)
+  accepted = list-accepted m.paths (length m.sizes) listed
+
+  well : IsWellFormed (nodes_of_master m)
+  unfolding nodes_of_master
+  well =
+      accepted-sound m.paths m.sizes (offsets_of (first_free m) m.sizes) listed g.passable.sizes
+      (λ i. omega (arith, g.passable.end, offsets-below (first_free m) m.disc_end m.sizes (placeable m room words bytes g) i))
+
+-- THEOREM
+pub tree-is-wish-list : TreeIsWishList
+unfolding nodes_of_master
+tree-is-wish-list m room words bytes g =
+    let offsets : List ℕ = offsets_of (first_free m) m.sizes in
+    let p = (accepted m room words bytes g).passed in
+    record {
+      files = files-of-tree (paths_in m.paths) m.sizes offsets;
+      directories = directory-first (paths_in m.paths) m.sizes offsets p;
+      siblings = siblings-differ (paths_in m.paths) m.sizes offsets p;
+    }
+
+-- THEOREM
+pub each-is-found : EachIsFound
+unfolding nodes_of_master
+each-is-found m room words bytes g i h =
+    let a = accepted m room words bytes g in
+    path-found (paths_in m.paths) m.sizes (offsets_of (first_free m) m.sizes) a.passed (well m room words bytes g) i (omega (arith, a.counted))
