@@ -2,7 +2,7 @@
 -- Assumes nothing.
 use Rattle.std.specs.Prelude.{ℕ, zero, suc, ◌+◌, ◌-◌, ◌<◌, ◌≤◌, ◌≡◌, refl, true, false, List, [], ◌∷◌, ◌++◌, length, drop, get_or}
 use Rattle.std.proofs.Common.{sym, ap, ◌∙◌, ⊎_elim, arith, length-append, length-drop}
-use Rattle.std.proofs.lemmas.List.{append_assoc, get_or_append_left, get_or-append-add}
+use Rattle.std.proofs.lemmas.List.{get_or_append_left, get_or-append-add}
 use Rattle.refusal.specs.Laws.Tests.{lt-or-le}
 use Rattle.tree.specs.Table.{Node, file, directory, empty_root}
 use Rattle.tree.specs.Lookup.{is_directory, next_of}
@@ -12,8 +12,9 @@ use Rattle.wish_list.proofs.Laws.Below.{common-less, added-least, length-entries
 use Rattle.wish_list.proofs.Laws.NameTexts.{names_of-named}
 use Rattle.master.specs.Inner.Entries.{front_of, paths_below, paths_with, entry_paths}
 use Rattle.master.proofs.Laws.NewPaths.{length-paths_with}
+use Rattle.master.proofs.Laws.NewPathsFiles.{join-names_of, front-join}
 use Rattle.master.proofs.Laws.Order.{Begins}
-use Rattle.master.proofs.Laws.OrderNames.{joined, joined-names_of, joined-front}
+use Rattle.master.proofs.Laws.OrderNames.{joined, joined-behind}
 use mathlib.Core.List.{tail}
 
 -- ---- the entries of one file: the last is the file, the others are directories around it
@@ -41,8 +42,7 @@ chain-below k n zero front (name ∷ next ∷ names) w ws e = absurd (omega arit
 chain-below k n (suc l) front (name ∷ next ∷ names) w ws e =
     let text : List ℕ = front ++ (name ++ (0x2F ∷ [])) in
     let c = chain-below (suc k) (suc n) l text (next ∷ names) w ws (omega arith) in
-    let path≡ : text ++ joined (next ∷ names) ≡ front ++ joined (name ∷ next ∷ names) =
-    append_assoc front (name ++ (0x2F ∷ [])) (joined (next ∷ names)) ∙ ap (λ (s : List ℕ). front ++ s) (append_assoc name (0x2F ∷ []) (joined (next ∷ names))) in
+    let path≡ : text ++ joined (next ∷ names) ≡ front ++ joined (name ∷ next ∷ names) = joined-behind front name next names in
     record { name = c.name; node = c.node; text = c.text ∙ path≡; around = step text path≡ c }
   where
     step : (text : List ℕ) → text ++ joined (next ∷ names) ≡ front ++ joined (name ∷ next ∷ names) →
@@ -63,7 +63,7 @@ chain-with : (k : ℕ) (before : List (List ℕ)) (path : List ℕ) (w : Wish) (
 chain-with k before path w ws l e a =
     let n : ℕ = common before w.names in
     let h : n < length w.names = common-less before w.names (rw e (names_of-named path)) in
-    let path≡ : front_of n w.names ++ joined (drop n w.names) ≡ path = sym (joined-front n w.names h) ∙ ap joined e ∙ joined-names_of path in
+    let path≡ : front_of n w.names ++ joined (drop n w.names) ≡ path = front-join n w.names h ∙ ap joined e ∙ join-names_of path in
     rw path≡ at (chain-below k n l (front_of n w.names) (drop n w.names) w ws (omega (arith, length-drop n w.names)))
 
 -- what entry n of these is there for: file number `file` of the list, whose own entry is `entry`

@@ -1,9 +1,8 @@
 -- The paths of accepted wishes rise, and so do those of all entries of their tree; no file is used as a directory. Assumes nothing.
-use Rattle.std.specs.Prelude.{ℕ, zero, suc, ◌+◌, ◌-◌, ◌<◌, ◌≡◌, refl, true, false, List, [], ◌∷◌, ◌++◌, length, drop, get_or}
+use Rattle.std.specs.Prelude.{ℕ, zero, suc, ◌-◌, ◌<◌, ◌≡◌, refl, true, false, List, [], ◌∷◌, ◌++◌, length, drop, get_or}
 use Rattle.std.specs.List.{list_any}
-use Rattle.std.proofs.Common.{sym, ap, ◌∙◌, arith, add-zero, length-drop}
+use Rattle.std.proofs.Common.{◌∙◌, arith, length-drop}
 use Rattle.std.proofs.lemmas.Bool.{false≢true}
-use Rattle.std.proofs.lemmas.List.{append_assoc, get_or-drop}
 use Rattle.refusal.specs.Laws.Tests.{or-false}
 use Rattle.tree.specs.Table.{is_safe}
 use Rattle.tree.specs.Inner.WellFormed.{IsGoodName}
@@ -15,7 +14,9 @@ use Rattle.wish_list.proofs.Laws.NameTexts.{names_of-named}
 use Rattle.wish_list.proofs.Laws.AcceptedPaths.{HasPassed, HaveAllPassed, names_of-good}
 use Rattle.master.specs.Inner.Entries.{front_of, paths_below, paths_with, entry_paths}
 use Rattle.master.proofs.Laws.Order.{Begins, below-trans, below-longer, below-front}
-use Rattle.master.proofs.Laws.OrderNames.{AllWhole, joined, joined-names_of, names_of-whole, joined-front, front_of-more, common-last}
+use Rattle.master.proofs.Laws.Parents.{front-more}
+use Rattle.master.proofs.Laws.NewPathsFiles.{join-names_of, front-join}
+use Rattle.master.proofs.Laws.OrderNames.{AllWhole, joined, joined-behind, names_of-whole, common-last}
 use mathlib.Core.List.{tail}
 
 -- ---- texts that rise, the first of them above `last`
@@ -84,9 +85,7 @@ rise-below last front [] texts h g b r = absurd (omega arith)
 rise-below last front (name ∷ []) texts h g b r = (b, r)
 rise-below last front (name ∷ next ∷ names) texts h g b r =
     let e : List ℕ = front ++ (name ++ (0x2F ∷ [])) in
-    let a : e ++ joined (next ∷ names) ≡ front ++ joined (name ∷ next ∷ names) =
-    append_assoc front (name ++ (0x2F ∷ [])) (joined (next ∷ names)) ∙ ap (λ (l : List ℕ). front ++ l) (append_assoc name (0x2F ∷ []) (joined (next ∷ names))) in
-    (b, rise-below e e (next ∷ names) texts (omega arith) g.1 (first-above e (next ∷ names) (omega arith) g.1) (rw a r))
+    (b, rise-below e e (next ∷ names) texts (omega arith) g.1 (first-above e (next ∷ names) (omega arith) g.1) (rw (joined-behind front name next names) r))
 
 good-rest : (n : ℕ) (names : List (List ℕ)) → AllGoodNames names → AllGoodNames (drop n names)
 good-rest zero names g = g
@@ -98,18 +97,16 @@ good-rest (suc n) (name ∷ names) g = good-rest n names g.1
 -- the first new entry of a file is above the file before it
 first-new : (last path : List ℕ) (n : ℕ) (names : List (List ℕ)) → n < length names → joined names ≡ path → is_below last path ≡ true → (suc n < length names → Begins last (front_of (suc n) names) → ⊥) →
     is_below last (first_below (front_of n names) (drop n names)) ≡ true
-first-new last path n names h e b f = go (drop n names) (length-drop n names) (λ i. sym (get_or-drop n names i [])) (joined-front n names h)
+first-new last path n names h e b f = go (drop n names) refl (length-drop n names)
   where
-    go : (rest : List (List ℕ)) → length rest ≡ length names - n → ((i : ℕ) → get_or names (n + i) [] ≡ get_or rest i []) → joined names ≡ front_of n names ++ joined rest →
-        is_below last (first_below (front_of n names) rest) ≡ true
-    go [] l g j = absurd (omega arith)
-    go (name ∷ []) l g j = rw (← j, e) b
-    go (name ∷ next ∷ rest) l g j =
-        let name≡ : get_or names n [] ≡ name = rw add-zero at (g 0) in
-        let front≡ : front_of (suc n) names ≡ front_of n names ++ (name ++ (0x2F ∷ [])) = rw name≡ at (front_of-more n names h) in
-        let path≡ : (front_of n names ++ (name ++ (0x2F ∷ []))) ++ joined (next ∷ rest) ≡ path =
-        append_assoc (front_of n names) (name ++ (0x2F ∷ [])) (joined (next ∷ rest)) ∙ ap (λ (s : List ℕ). front_of n names ++ s) (append_assoc name (0x2F ∷ []) (joined (next ∷ rest))) ∙ sym j ∙ e in
-        below-front last (front_of n names ++ (name ++ (0x2F ∷ []))) (joined (next ∷ rest)) (rw path≡ b) (rw front≡ at (f (omega arith)))
+    go : (rest : List (List ℕ)) → drop n names ≡ rest → length rest ≡ length names - n → is_below last (first_below (front_of n names) rest) ≡ true
+    go [] r l = absurd (omega arith)
+    go (name ∷ []) r l = let p : front_of n names ++ name ≡ path = rw r at (front-join n names h) ∙ e in rw p b
+    go (name ∷ next ∷ rest) r l =
+        let front : List ℕ = front_of n names in
+        let front≡ : front_of (suc n) names ≡ front ++ (name ++ (0x2F ∷ [])) = front-more n names name (next ∷ rest) r in
+        let path≡ : (front ++ (name ++ (0x2F ∷ []))) ++ joined (next ∷ rest) ≡ path = joined-behind front name next rest ∙ rw r at (front-join n names h) ∙ e in
+        below-front last (front ++ (name ++ (0x2F ∷ []))) (joined (next ∷ rest)) (rw path≡ b) (rw front≡ at (f (omega arith)))
 
 file-rises : (last path : List ℕ) (names before : List (List ℕ)) (texts : List (List ℕ)) → AllWhole names → joined names ≡ last → HasPassed before path → is_below last path ≡ true → Rise path texts →
     Rise last (paths_with names (names_of path) ++ texts)
@@ -118,16 +115,16 @@ file-rises last path names before texts a e p b r =
     let n : ℕ = common names own in
     let h : n < length own = common-less names own (names_of-named path) in
     let l : length (drop n own) ≡ length own - n = length-drop n own in
-    let path≡ : front_of n own ++ joined (drop n own) ≡ path = sym (joined-front n own h) ∙ joined-names_of path in
+    let path≡ : front_of n own ++ joined (drop n own) ≡ path = front-join n own h ∙ join-names_of path in
     rise-below last (front_of n own) (drop n own) texts (omega arith) (good-rest n own (names_of-good before path p))
-    (first-new last path n own h (joined-names_of path) b (λ g s. common-last names own a (names_of-whole path) g (rw e s)))
+    (first-new last path n own h (join-names_of path) b (λ g s. common-last names own a (names_of-whole path) g (rw e s)))
     (rw path≡ r)
 
 rise-behind : (last : List ℕ) (before paths : List (List ℕ)) (sizes offsets : List ℕ) → HaveAllPassed (last ∷ before) paths → Rise last (entry_paths (names_of last) (wishes paths sizes offsets))
 unfolding entry_paths wishes
 rise-behind last before [] sizes offsets p = tt
 rise-behind last before (path ∷ paths) sizes offsets p =
-    file-rises last path (names_of last) (last ∷ before) (entry_paths (names_of path) (wishes paths (tail sizes) (tail offsets))) (names_of-whole last) (joined-names_of last) p.0 (p.0).in_order
+    file-rises last path (names_of last) (last ∷ before) (entry_paths (names_of path) (wishes paths (tail sizes) (tail offsets))) (names_of-whole last) (join-names_of last) p.0 (p.0).in_order
     (rise-behind path (last ∷ before) paths (tail sizes) (tail offsets) p.1)
 
 -- an accepted path has a byte

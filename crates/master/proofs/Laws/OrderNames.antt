@@ -1,11 +1,10 @@
--- A path and its names: joined they are the path, and the directories that a file does not share with the file before it are not on that
--- one's path. Assumes nothing.
-use Rattle.std.specs.Prelude.{ℕ, zero, suc, ◌<◌, ◌≡◌, refl, Bool, true, false, cond, List, [], ◌∷◌, ◌++◌, length, drop, eqb, get_or}
+-- The names of paths: none has a `/`, and the first directory that a file does not share with the file before it is not on that one's path.
+-- Assumes nothing.
+use Rattle.std.specs.Prelude.{ℕ, suc, ◌<◌, ◌≡◌, refl, Bool, true, false, cond, List, [], ◌∷◌, ◌++◌, length, eqb}
 use Rattle.std.specs.List.{onto_first, join_with_byte}
-use Rattle.std.proofs.Common.{sym, ◌∙◌, arith}
+use Rattle.std.proofs.Common.{sym, ap, ◌∙◌, arith}
 use Rattle.std.proofs.lemmas.Bool.{false≢true}
 use Rattle.std.proofs.lemmas.List.{append_assoc}
-use Rattle.std.proofs.lemmas.List.Splits.{join_with_byte-slice_split}
 use Rattle.endian.specs.Bytes.{are_same_bytes}
 use Rattle.endian.specs.Laws.Stored.{same_refl}
 use Rattle.wish_list.specs.Paths.{names_of}
@@ -16,8 +15,10 @@ use Rattle.master.proofs.Laws.Order.{Begins}
 abbrev pub joined : List (List ℕ) → List ℕ
 joined names = join_with_byte 0x2F names
 
-pub joined-names_of : (path : List ℕ) → joined (names_of path) ≡ path
-joined-names_of path = join_with_byte-slice_split 0x2F path
+-- one name more in front of the others
+pub joined-behind : (front name next : List ℕ) (names : List (List ℕ)) → (front ++ (name ++ (0x2F ∷ []))) ++ joined (next ∷ names) ≡ front ++ joined (name ∷ next ∷ names)
+joined-behind front name next names =
+    append_assoc front (name ++ (0x2F ∷ [])) (joined (next ∷ names)) ∙ ap (λ (s : List ℕ). front ++ s) (append_assoc name (0x2F ∷ []) (joined (next ∷ names)))
 
 -- ---- no name has a `/`
 
@@ -54,22 +55,6 @@ cut-none [] [] ys p e = let z : ◌≡◌ {A = ℕ} 0 1 = cc in absurd (omega ar
 cut-none [] (y ∷ c) ys p e = let z : ◌≡◌ {A = ℕ} 0 1 = cc in absurd (omega arith)
 cut-none (x ∷ a) [] ys p e = let x≡ : x ≡ 0x2F = cc in absurd (false≢true (sym (rw x≡ at p.0)))
 cut-none (x ∷ a) (y ∷ c) ys p e = cut-none a c ys p.1 cc
-
--- ---- the first names of a path
-
-pub joined-front : (n : ℕ) (names : List (List ℕ)) → n < length names → joined names ≡ front_of n names ++ joined (drop n names)
-unfolding front_of
-joined-front zero names h = refl
-joined-front (suc n) [] h = absurd (omega arith)
-joined-front (suc n) (name ∷ []) h = absurd (omega arith)
-joined-front (suc n) (name ∷ next ∷ names) h = rw (joined-front n (next ∷ names) (omega arith), append_assoc name (0x2F ∷ front_of n (next ∷ names)) (joined (drop n (next ∷ names))))
-
--- and one name more
-pub front_of-more : (n : ℕ) (names : List (List ℕ)) → n < length names → front_of (suc n) names ≡ front_of n names ++ (get_or names n [] ++ (0x2F ∷ []))
-unfolding front_of
-front_of-more n [] h = absurd (omega arith)
-front_of-more zero (name ∷ names) h = refl
-front_of-more (suc n) (name ∷ names) h = rw (front_of-more n names (omega arith), append_assoc name (0x2F ∷ front_of n names) (get_or names n [] ++ (0x2F ∷ [])))
 
 -- ---- one directory more than those that two files share
 
