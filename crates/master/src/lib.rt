@@ -7,6 +7,7 @@ ghost use Rattle.header.specs.Header.{put_header};
 ghost use Rattle.opened.specs.Opening.{zeros};
 ghost use Rattle.master.specs.Master.{header_with, master_verdict, written_master, image_with_master};
 ghost use Rattle.master.specs.Asked.{master_of};
+ghost use Rattle.master.specs.Theorem.{TreeIsWishList, EachIsFound, RefusedExactly, NewMasterOpens, AnyListFollows};
 
 use header::{DiscHeader, HEADER_LEN};
 use new_table::NewTable;
@@ -40,10 +41,11 @@ impl<'a> Master<'a> {
         let list = WishList::new(self.paths, self.sizes)?;
         let table = NewTable::measure(&list, words)?;
         let size = table.size();
+        let has_place = placement::is_placeable(HEADER_LEN + size, self.disc_end, self.sizes);
         if bytes < size || room < self.disc_end as usize {
             return Err(Refusal::LimitOrMemory);
         }
-        if !placement::is_placeable(HEADER_LEN + size, self.disc_end, self.sizes) {
+        if !has_place {
             return Err(Refusal::NotEnoughSpace);
         }
         Ok(table)
@@ -69,3 +71,31 @@ fn write_blank(image: &mut [u8], game_code: [u8; 4], disc_end: u32, table_size: 
     };
     header.write_to(image)
 }
+
+// ---- The theorems about every new master, each the promise of a function that does nothing: what they say is
+// in specs/Theorem.antt, and why they hold in proofs/Laws/.
+
+// Its tree is the wish list: the files in their order, each directory before its first file, and no other.
+pub fn tree_is_wish_list()
+    ensures { TreeIsWishList }
+{}
+
+// Each path leads to its file.
+pub fn each_is_found()
+    ensures { EachIsFound }
+{}
+
+// Where nothing else is due, it is refused for its space exactly if no offsets at all will do.
+pub fn refused_exactly()
+    ensures { RefusedExactly }
+{}
+
+// It opens with the words that were lent, and shows what was wished for.
+pub fn new_master_opens()
+    ensures { NewMasterOpens }
+{}
+
+// Any list of edits may follow, with all that is promised of one.
+pub fn any_list_follows()
+    ensures { AnyListFollows }
+{}
