@@ -8,6 +8,9 @@ pub mod ListSteps
 pub mod Marked
 pub mod MasterListing
 pub mod Maximum
+pub mod NewMasters
+pub mod NewMastersImage
+pub mod NewMastersPaths
 pub mod Places
 pub mod Programs
 pub mod Records
