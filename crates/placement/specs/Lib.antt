@@ -1,2 +1,4 @@
 pub mod Places
 pub mod Placement
+pub mod Theorem
+pub mod Inner

@@ -1,13 +1,15 @@
--- What it means that the files of a new master have a place. Assumes nothing: these are definitions.
+-- What a place for each file of a new master has to be (RULES, A new master): each file that is not empty begins on a multiple of 0x8000, nothing overlaps
+-- header and table or another file, and nothing passes the disc end; the order on disc is free. Header and table are the first t bytes.
+-- Assumes nothing: these are definitions.
 use Rattle.std.specs.Prelude.{ℕ, ◌+◌, ◌%◌, ◌<◌, ◌≤◌, ◌≡◌, List, length, slice_index}
 
 -- byte b is one of file i's
 abbrev pub IsInFile : List ℕ → List ℕ → ℕ → ℕ → Type 0
 IsInFile sizes offsets i b = (slice_index offsets i ≤ b) × (b < slice_index offsets i + slice_index sizes i)
 
--- An offset for each size, in any order on the disc: header and table, the first t bytes, end by the disc end; each file that is not
--- empty begins on a multiple of 0x8000, behind the table, and ends by the disc end; no byte is in two files. (Behind the last file
--- sizes and offsets read 0. An empty file has no byte, and may be anywhere.)
+-- An offset for each size, in any order on disc: each file that is not empty begins on a multiple of 0x8000, at t or behind it, and ends by the disc end;
+-- no byte is in two files; and header and table end by the disc end. (Behind the last file sizes and offsets read 0.) An empty file may be anywhere:
+-- it has no byte.
 pub record IsPlaced (t end : ℕ) (sizes offsets : List ℕ) : Type 0 where
   pub each : length offsets ≡ length sizes
   pub table : t ≤ end
