@@ -1,3 +1,4 @@
 -- What follows from the definitions.
 pub mod Written
 pub mod Opens
+pub mod AllListsFollow

@@ -143,7 +143,7 @@ pub record Sized (h : DiscHeader) : Type 0 where
   pub unused-43c : h.unused_43c < 2 ^ 32
 
 module _ (h : DiscHeader) (s : Sized h) (image : List ℕ) (whole : 0x440 ≤ length image) where
-  fills : Fills fields (field_bytes h)
+  pub fills : Fills fields (field_bytes h)
   unfolding fields field_bytes
   fills = (s.game-code, (s.maker-code, (refl, (refl, (refl, (refl, (s.unused-00a, (refl, (refl, (s.game-name, (refl, (refl, (s.unused-408, (refl, (refl, (refl, (refl, (refl, (refl, (refl, (refl, tt)))))))))))))))))))))
 

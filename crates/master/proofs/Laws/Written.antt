@@ -24,7 +24,7 @@ pub record Fits (m : Master) (image : List ℕ) : Type 0 where
   pub size : length (encode (nodes_of_master m)) ≡ table_size m
   pub room : m.disc_end ≤ length image
 
-get_or-replicate_lem : (n i : ℕ) → get_or (replicate {A = ℕ} n 0) i 0 ≡ 0
+pub get_or-replicate_lem : (n i : ℕ) → get_or (replicate {A = ℕ} n 0) i 0 ≡ 0
 get_or-replicate_lem zero i = refl
 get_or-replicate_lem (suc n) zero = refl
 get_or-replicate_lem (suc n) (suc i) = get_or-replicate_lem n i
@@ -53,7 +53,7 @@ module _ (m : Master) (image : List ℕ) (f : Fits m image) where
   abbrev new : List ℕ
   new = put head 0x440 tab
 
-  sized : Sized h
+  pub sized : Sized h
   unfolding header_of_master blank_header
   sized = record {
     game-code = f.code;
@@ -81,13 +81,13 @@ module _ (m : Master) (image : List ℕ) (f : Fits m image) where
   pub length-blank : length blank ≡ length image
   length-blank = length-put image 0 (replicate m.disc_end 0) zeros-fit
 
-  whole : 0x440 ≤ length blank
+  pub whole : 0x440 ≤ length blank
   whole = omega (arith, length-blank, f.table, f.room)
 
-  length-head : length head ≡ length image
+  pub length-head : length head ≡ length image
   length-head = length-written h sized blank whole ∙ length-blank
 
-  table-fits : 0x440 + length tab ≤ length head
+  pub table-fits : 0x440 + length tab ≤ length head
   table-fits = omega (arith, length-head, f.table, f.size, f.room)
 
   pub length-new : length new ≡ length image
