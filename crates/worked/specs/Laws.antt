@@ -9,8 +9,10 @@ pub mod Marked
 pub mod MasterListing
 pub mod Maximum
 pub mod NewMasters
+pub mod NewMastersApplied
 pub mod NewMastersImage
 pub mod NewMastersPaths
+pub mod NewMastersPlaced
 pub mod Places
 pub mod Programs
 pub mod Records

@@ -77,6 +77,10 @@ small_header =
 unfoldable pub written : List ℕ
 written = written_master small lent
 
+pub small-tree : nodes_of_master small ≡ nested_tree 0 0 0x8000 3
+unfolding paths_in wishes common below entries_from tree_from tree are_same_bytes texts_of encode entries_bytes parent_of parent_below align_up whole_total largest_rest offsets_in_order offsets_with_last last_file offsets_of nodes_of_master
+small-tree = refl
+
 pub record Image : Type 0 where
   pub accepted : master_verdict small (length lent) 32 0x52 ≡ Ok tt
   -- one byte less of disc
