@@ -1,0 +1,5 @@
+mod Names
+mod Measuring
+mod Limits
+mod Lists
+mod Sharing

@@ -1,6 +1,8 @@
-// The file table of a new master.
+// The file table of a new master: measured, and written from its paths.
 #![tactic(auto)]
 
-pub fn probe(a: usize) -> usize {
-    a
-}
+mod measured;
+mod path;
+mod size;
+
+pub use measured::NewTable;

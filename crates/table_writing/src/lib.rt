@@ -14,5 +14,6 @@ mod writer;
 pub use growing::Growing;
 pub use kind::Kind;
 pub use patch::set_place;
+pub use record::Record;
 pub use size::measure;
 pub use writer::write_table;

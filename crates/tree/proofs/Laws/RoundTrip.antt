@@ -15,32 +15,50 @@ use Rattle.refusal.specs.Refusal.{refuse}
 use Rattle.refusal.specs.Laws.Chains.{refuse-passed}
 use Rattle.tree.specs.Table.{Node, directory, kind, size_or_next, count, nodes_from, nodes_of, entries_verdict, walk, check, node_bytes, entries_bytes, texts_of, encode, is_shallow_from, is_shallow, limits}
 use Rattle.tree.specs.Inner.WellFormed.{IsSound, IsWellFormed}
-use Rattle.tree.proofs.Laws.WrittenEntries.{length-entries_bytes, length-encode, entries-accepted, Reads, reads, reads-nodes, reads-walk, last-append, last-text, not-is_unended}
+use Rattle.tree.proofs.Laws.WrittenEntries.{length-node_bytes, length-entries_bytes, entries-accepted, Reads, reads, reads-nodes, reads-walk, last-append, last-text, not-is_unended}
+
+-- ---- a table that stores any parents, those of the entries of `parents`: nothing reads them
+
+unfoldable pub encode_with : List Node → List Node → List ℕ
+encode_with parents [] = []
+encode_with parents (root ∷ xs) = node_bytes 0 0 root ++ (entries_bytes parents 1 0 xs ++ texts_of xs)
+
+-- a written table stores its own
+pub encode-own : (nodes : List Node) → encode nodes ≡ encode_with nodes nodes
+unfolding encode encode_with
+encode-own [] = refl
+encode-own (root ∷ xs) = refl
+
+pub length-encode_with : (parents nodes : List Node) → length (encode_with parents nodes) ≡ 12 * length nodes + length (texts_of (tail nodes))
+unfolding encode_with texts_of
+length-encode_with parents [] = refl
+length-encode_with parents (r ∷ xs) =
+    omega (arith, length-append (node_bytes 0 0 r) (entries_bytes parents 1 0 xs ++ texts_of xs), length-node_bytes 0 0 r, length-append (entries_bytes parents 1 0 xs) (texts_of xs), length-entries_bytes parents 1 0 xs)
 
 -- ---- the whole table, of the root and the entries xs
 
 abbrev whole : List Node → List Node
 whole xs = directory [] (suc (length xs)) ∷ xs
 
-module _ (xs : List Node) (few : suc (length xs) < 2 ^ 32) where
+module _ (parents xs : List Node) (few : suc (length xs) < 2 ^ 32) where
   abbrev tab : List ℕ
-  tab = encode (whole xs)
+  tab = encode_with parents (whole xs)
 
   abbrev front : List ℕ
-  front = node_bytes 0 0 (directory [] (suc (length xs))) ++ entries_bytes (whole xs) 1 0 xs
+  front = node_bytes 0 0 (directory [] (suc (length xs))) ++ entries_bytes parents 1 0 xs
 
   front_length : length front ≡ 12 * suc (length xs) + 0
-  front_length = omega (arith, length-append (node_bytes 0 0 (directory [] (suc (length xs)))) (entries_bytes (whole xs) 1 0 xs), length-entries_bytes (whole xs) 1 0 xs)
+  front_length = omega (arith, length-append (node_bytes 0 0 (directory [] (suc (length xs)))) (entries_bytes parents 1 0 xs), length-entries_bytes parents 1 0 xs)
 
   texts-length : length tab - 12 * suc (length xs) ≡ length (texts_of xs)
-  texts-length = omega (arith, length-encode (whole xs))
+  texts-length = omega (arith, length-encode_with parents (whole xs))
 
   tab-kind : kind tab 0 ≡ 1
-  unfolding encode
+  unfolding encode_with
   tab-kind = refl
 
   tab-next : size_or_next tab 0 ≡ suc (length xs)
-  unfolding encode be32
+  unfolding encode_with be32
   tab-next = be32-value (suc (length xs)) few
 
   tab-count : count tab ≡ suc (length xs)
@@ -51,18 +69,18 @@ module _ (xs : List Node) (few : suc (length xs) < 2 ^ 32) where
   pred-count = omega arith
 
   tab-entries : entries_verdict tab 1 (length xs) ≡ Ok tt
-  unfolding encode
-  tab-entries = entries-accepted (whole xs) tab 1 0 xs (texts_of xs) refl
+  unfolding encode_with
+  tab-entries = entries-accepted parents tab 1 0 xs (texts_of xs) refl
 
   tab-last : 12 * suc (length xs) < length tab → get_or tab (length tab - 1) 0 ≡ 0
-  unfolding encode
+  unfolding encode_with
   tab-last h = last-append front (texts_of xs) (omega (arith, texts-length)) ∙ last-text xs
 
   module _ (g : IsSound (suc (length xs)) (suc (length xs) ∷ []) 1 xs) where
     tab-reads : length (texts_of xs) ≤ 2 ^ 24 → Reads tab (suc (length xs)) 1 xs
-    unfolding encode
+    unfolding encode_with
     tab-reads texts =
-        reads (whole xs) tab (suc (length xs)) 1 0 (suc (length xs) ∷ []) (texts_of xs) xs refl (drop_at front (texts_of xs) _ front_length) (omega arith) few g
+        reads parents tab (suc (length xs)) 1 0 (suc (length xs) ∷ []) (texts_of xs) xs refl (drop_at front (texts_of xs) _ front_length) (omega arith) few g
 
     back : length (texts_of xs) ≤ 2 ^ 24 → nodes_of tab ≡ whole xs
     unfolding nodes_of
@@ -73,7 +91,7 @@ module _ (xs : List Node) (few : suc (length xs) < 2 ^ 32) where
     judged words =
         simp (
           tab-count,
-          le-ltb (length tab) 12 (omega (arith, length-encode (whole xs))),
+          le-ltb (length tab) 12 (omega (arith, length-encode_with parents (whole xs))),
           tab-kind,
           pred-count,
           tab-entries,
@@ -93,13 +111,20 @@ module _ (xs : List Node) (few : suc (length xs) < 2 ^ 32) where
             let r : Reads tab (suc (length xs)) 1 xs = tab-reads (omega arith) in
             rw (reads-nodes tab (suc (length xs)) 1 xs r, reads-walk tab (suc (length xs)) 1 (suc (length xs) ∷ []) xs r g)
 
+-- whatever parents are stored
+pub nodes_of-encode_with : (parents nodes : List Node) → IsWellFormed nodes → length nodes < 2 ^ 32 → length (texts_of (tail nodes)) ≤ 2 ^ 24 → nodes_of (encode_with parents nodes) ≡ nodes
+nodes_of-encode_with parents [] w few texts = cc w.root
+nodes_of-encode_with parents (x ∷ xs) w few texts = rw w.root (back parents xs few w.sound texts)
+
+pub check-encode_with : (parents nodes : List Node) (words : ℕ) → IsWellFormed nodes → length nodes < 2 ^ 32 → check (encode_with parents nodes) words ≡ limits nodes words
+check-encode_with parents [] words w few = absurd (nil≢cons w.root)
+check-encode_with parents (x ∷ xs) words w few = rw w.root (judged parents xs few w.sound words)
+
 pub round_trip : (nodes : List Node) → IsWellFormed nodes → length nodes < 2 ^ 32 → length (texts_of (tail nodes)) ≤ 2 ^ 24 → nodes_of (encode nodes) ≡ nodes
-round_trip [] w few texts = cc w.root
-round_trip (x ∷ xs) w few texts = rw w.root (back xs few w.sound texts)
+round_trip nodes w few texts = rw encode-own (nodes_of-encode_with nodes nodes w few texts)
 
 pub check-limits : (nodes : List Node) (words : ℕ) → IsWellFormed nodes → length nodes < 2 ^ 32 → check (encode nodes) words ≡ limits nodes words
-check-limits [] words w few = absurd (nil≢cons w.root)
-check-limits (x ∷ xs) words w few = rw w.root (judged xs few w.sound words)
+check-limits nodes words w few = rw encode-own (check-encode_with nodes nodes words w few)
 
 -- ---- within the limits
 

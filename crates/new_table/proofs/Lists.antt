@@ -1,0 +1,47 @@
+-- What the tests of a wish list give. Assumes nothing.
+use Rattle.std.specs.Prelude.{Ok, Err, IsTrue, is_ok}
+use Rattle.std.specs.Prelude.{ℕ, zero, suc, ◌-◌, ◌<◌, ◌≡◌, refl, Bool, true, false, not, ◌&&◌, ◌||◌, ◌==◌, List, [], ◌∷◌, length, get_or, ltb}
+use Rattle.std.specs.List.{count_by}
+use Rattle.std.proofs.Common.{arith, lt-ltb, eqb-true}
+use Rattle.std.proofs.lemmas.Bool.{false≢true}
+use Rattle.refusal.specs.Laws.Tests.{or-false, is_false}
+use Rattle.refusal.specs.Laws.Chains.{first-passed, refuse-passed}
+use Rattle.refusal.specs.Refusal.{Verdict, refuse, first}
+use Rattle.refusal.specs.declared.Refusal.TheVariants.{MissingNullTerminator}
+use Rattle.wish_list.specs.Paths.{is_zero, has_rest, paths_in, ends_verdict, paths_verdict, list_verdict}
+
+pub ok-is : (v : Verdict) → IsTrue (is_ok v) → v ≡ Ok tt
+ok-is (Ok tt) h = refl
+ok-is (Err c) h = absurd (false≢true h)
+
+pub is-ok : (v : Verdict) → v ≡ Ok tt → IsTrue (is_ok v)
+is-ok v e = rw e refl
+
+-- the last byte is zero, if there is one
+no-rest : (bytes : List ℕ) → has_rest bytes ≡ false → get_or bytes (length bytes - 1) 0 ≡ 0
+no-rest [] e = refl
+no-rest (b ∷ s) e = go (is_zero (get_or (b ∷ s) (suc (length s) - 1) 0)) refl (ltb 0 (suc (length s))) (lt-ltb 0 (suc (length s)) (omega arith)) e
+  where
+    go : (t : Bool) → is_zero (get_or (b ∷ s) (suc (length s) - 1) 0) ≡ t → (u : Bool) → u ≡ true → (u && not t) ≡ false → get_or (b ∷ s) (suc (length s) - 1) 0 ≡ 0
+    go true p u q r = eqb-true (get_or (b ∷ s) (suc (length s) - 1) 0) 0 p
+    go false p true q r = let z : ◌≡◌ {A = ℕ} 0 1 = cc in absurd (omega arith)
+    go false p false q r = let z : ◌≡◌ {A = ℕ} 0 1 = cc in absurd (omega arith)
+
+module _ (bytes : List ℕ) (n : ℕ) (h : IsTrue (is_ok (list_verdict bytes n))) where
+  passed : list_verdict bytes n ≡ Ok tt
+  passed = ok-is (list_verdict bytes n) h
+
+  ends : (has_rest bytes || not (count_by is_zero bytes == n)) ≡ false
+  unfolding list_verdict
+  ends = (refuse-passed (has_rest bytes || not (count_by is_zero bytes == n)) MissingNullTerminator (Ok tt) (first-passed (ends_verdict bytes n) (paths_verdict [] (paths_in bytes)) passed).0).0
+
+  pub ended : get_or bytes (length bytes - 1) 0 ≡ 0
+  ended = no-rest bytes (or-false (has_rest bytes) _ ends).0
+
+  -- one path for each size
+  pub counted : count_by is_zero bytes ≡ n
+  counted = eqb-true (count_by is_zero bytes) n (true-not _ (or-false (has_rest bytes) _ ends).1)
+    where
+      true-not : (t : Bool) → not t ≡ false → t ≡ true
+      true-not true e = refl
+      true-not false e = let z : ◌≡◌ {A = ℕ} 0 1 = cc in absurd (omega arith)
