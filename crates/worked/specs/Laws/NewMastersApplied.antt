@@ -30,8 +30,9 @@ use Rattle.wish_list.specs.Paths.{paths_in, path_verdict, paths_verdict, list_ve
 use Rattle.wish_list.specs.Tree.{wishes, common, below, entries_from, tree_from, tree}
 use Rattle.placement.specs.Placement.{whole_total, largest_rest, offsets_in_order, offsets_with_last, last_file, offsets_of}
 use Rattle.placement.specs.Places.{IsPlaced}
-use Rattle.master.specs.Master.{Master, first_free, nodes_of_master, before_place, master_verdict, header_of_master, written_master}
-use Rattle.master.specs.Theorem.{IsGranted, FileSeen, files_in, files_wished, IsFirstBelow, IsWishTree, TreeIsWishList, IsFound, EachIsFound, IsOpenedAs}
+use Rattle.master.specs.Master.{Master, first_free, nodes_of_master, before_place, master_verdict, header_with, written_master}
+use Rattle.master.specs.Theorem.{IsGranted, FileSeen, files_in, files_wished, IsFirstBelow, IsWishTree, IsFound, IsOpenedAs}
+use Rattle.master.proofs.Laws.WishTree.{tree-is-wish-list, each-is-found}
 use Rattle.master.proofs.Laws.Opens.{new-master-opens}
 use Rattle.master.proofs.Laws.AllListsFollow.{any-list-follows, refused-exactly}
 use Rattle.worked.specs.Laws.NewMastersImage.{nested, nested_tree, small, lent, written, image, small-tree}
@@ -65,6 +66,22 @@ granted = record {
   granted = image.accepted;
 }
 
+-- what was granted, as the theorems have it
+pub record Granted : Type 0 where
+  pub verdict : master_verdict small (length lent) 32 0x52 ≡ Ok tt
+  -- the game code has four bytes, the last one `E`
+  pub code : (length small.game_code ≡ 4) × (0x45 < 256)
+  pub end : 0x8003 < 2 ^ 32
+  pub size-of-d : 3 < 2 ^ 32
+
+pub granted-worked : Granted
+granted-worked = record {
+  verdict = granted.granted;
+  code = (granted.passable.game_code, granted.passable.code_bytes 3);
+  end = granted.passable.end;
+  size-of-d = granted.passable.sizes 1;
+}
+
 small-free : first_free small ≡ 0x492
 unfolding paths_in wishes common below entries_from tree_from tree are_same_bytes texts_of encode entries_bytes parent_of parent_below
 small-free = refl
@@ -90,84 +107,83 @@ path_d = 0x2F ∷ 0x61 ∷ 0x2F ∷ 0x63 ∷ 0x2F ∷ 0x64 ∷ []
 abbrev path_e : List ℕ
 path_e = 0x2F ∷ 0x65 ∷ []
 
-module _ (tree-is-wish-list : TreeIsWishList) (each-is-found : EachIsFound) where
-  wish_tree : IsWishTree (paths_in small.paths) small.sizes nodes
-  wish_tree = rw small-tree at (tree-is-wish-list small (length lent) 32 0x52 granted)
+wish_tree : IsWishTree (paths_in small.paths) small.sizes nodes
+wish_tree = rw small-tree at (tree-is-wish-list small (length lent) 32 0x52 granted)
 
-  pub record Files : Type 0 where
-    pub paths : map (λ f. f.path) (files_in nodes) ≡ path_b ∷ path_d ∷ path_e ∷ []
-    pub sizes : map (λ f. f.size) (files_in nodes) ≡ 0 ∷ 3 ∷ 0 ∷ []
+pub record Files : Type 0 where
+  pub paths : map (λ f. f.path) (files_in nodes) ≡ path_b ∷ path_d ∷ path_e ∷ []
+  pub sizes : map (λ f. f.size) (files_in nodes) ≡ 0 ∷ 3 ∷ 0 ∷ []
 
-  pub files : Files
-  unfolding files_wished paths_in
-  files = record { paths = ap (map (λ (f : FileSeen). f.path)) wish_tree.files; sizes = ap (map (λ (f : FileSeen). f.size)) wish_tree.files }
+pub files : Files
+unfolding files_wished paths_in
+files = record { paths = ap (map (λ (f : FileSeen). f.path)) wish_tree.files; sizes = ap (map (λ (f : FileSeen). f.size)) wish_tree.files }
 
-  -- `a`, entry 1, and `c`, entry 3: each stands just before its first file
+-- `a`, entry 1, and `c`, entry 3: each stands just before its first file
 
-  pub below-a : (f : ℕ) × IsFirstBelow nodes 1 f
-  below-a = wish_tree.directories 1 (omega arith) (omega arith) refl
+pub below-a : (f : ℕ) × IsFirstBelow nodes 1 f
+below-a = wish_tree.directories 1 (omega arith) (omega arith) refl
 
-  pub below-c : (f : ℕ) × IsFirstBelow nodes 3 f
-  below-c = wish_tree.directories 3 (omega arith) (omega arith) refl
+pub below-c : (f : ℕ) × IsFirstBelow nodes 3 f
+below-c = wish_tree.directories 3 (omega arith) (omega arith) refl
 
-  first-in-a : (f : ℕ) → IsFirstBelow nodes 1 f → f ≡ 2
-  first-in-a zero b = absurd (omega (arith, b.behind))
-  first-in-a (suc zero) b = absurd (omega (arith, b.behind))
-  first-in-a (suc (suc zero)) b = refl
-  first-in-a (suc (suc (suc zero))) b = absurd (false≢true (sym b.file))
-  first-in-a (suc (suc (suc (suc zero)))) b = absurd (false≢true ((b.between 2 (omega arith) (omega arith)).0))
-  first-in-a (suc (suc (suc (suc (suc f))))) b = absurd (omega (arith, b.inside))
+first-in-a : (f : ℕ) → IsFirstBelow nodes 1 f → f ≡ 2
+first-in-a zero b = absurd (omega (arith, b.behind))
+first-in-a (suc zero) b = absurd (omega (arith, b.behind))
+first-in-a (suc (suc zero)) b = refl
+first-in-a (suc (suc (suc zero))) b = absurd (false≢true (sym b.file))
+first-in-a (suc (suc (suc (suc zero)))) b = absurd (false≢true ((b.between 2 (omega arith) (omega arith)).0))
+first-in-a (suc (suc (suc (suc (suc f))))) b = absurd (omega (arith, b.inside))
 
-  first-in-c : (f : ℕ) → IsFirstBelow nodes 3 f → f ≡ 4
-  first-in-c zero b = absurd (omega (arith, b.behind))
-  first-in-c (suc zero) b = absurd (omega (arith, b.behind))
-  first-in-c (suc (suc zero)) b = absurd (omega (arith, b.behind))
-  first-in-c (suc (suc (suc zero))) b = absurd (omega (arith, b.behind))
-  first-in-c (suc (suc (suc (suc zero)))) b = refl
-  first-in-c (suc (suc (suc (suc (suc f))))) b = absurd (omega (arith, b.inside))
+first-in-c : (f : ℕ) → IsFirstBelow nodes 3 f → f ≡ 4
+first-in-c zero b = absurd (omega (arith, b.behind))
+first-in-c (suc zero) b = absurd (omega (arith, b.behind))
+first-in-c (suc (suc zero)) b = absurd (omega (arith, b.behind))
+first-in-c (suc (suc (suc zero))) b = absurd (omega (arith, b.behind))
+first-in-c (suc (suc (suc (suc zero)))) b = refl
+first-in-c (suc (suc (suc (suc (suc f))))) b = absurd (omega (arith, b.inside))
 
-  pub record Directories : Type 0 where
-    pub a : below-a.0 ≡ 2
-    pub c : below-c.0 ≡ 4
-    -- `/a/b` begins with `/a/`, and `/a/c/d` with `/a/c/`
-    pub paths : (starts_with nat_eq (path_of nodes below-a.0) (path_of nodes 1) ≡ true) × (starts_with nat_eq (path_of nodes below-c.0) (path_of nodes 3) ≡ true)
-    -- `/a/b`, before `c`, does not
-    pub before : starts_with nat_eq (path_of nodes 2) (path_of nodes 3) ≡ false
-    -- `b` and `c`, which are both in `a`, have two names, and so have `a` and `e`
-    pub siblings : (name_of (node 2) ≡ name_of (node 3) → ⊥) × (name_of (node 1) ≡ name_of (node 5) → ⊥)
+pub record Directories : Type 0 where
+  pub a : below-a.0 ≡ 2
+  pub c : below-c.0 ≡ 4
+  -- `/a/b` begins with `/a/`, and `/a/c/d` with `/a/c/`
+  pub paths : (starts_with nat_eq (path_of nodes below-a.0) (path_of nodes 1) ≡ true) × (starts_with nat_eq (path_of nodes below-c.0) (path_of nodes 3) ≡ true)
+  -- `/a/b`, before `c`, does not
+  pub before : starts_with nat_eq (path_of nodes 2) (path_of nodes 3) ≡ false
+  -- `b` and `c`, which are both in `a`, have two names, and so have `a` and `e`
+  pub siblings : (name_of (node 2) ≡ name_of (node 3) → ⊥) × (name_of (node 1) ≡ name_of (node 5) → ⊥)
 
-  pub directories : Directories
-  unfolding parent_of parent_below
-  directories = record {
-    a = first-in-a below-a.0 below-a.1;
-    c = first-in-c below-c.0 below-c.1;
-    paths = ((below-a.1.between 1 (omega arith) below-a.1.behind).1, (below-c.1.between 3 (omega arith) below-c.1.behind).1);
-    before = below-c.1.before 2 (omega arith) refl;
-    siblings = (
-      λ e. let n : ◌≡◌ {A = ℕ} 2 3 = wish_tree.siblings 2 3 (omega arith) (omega arith) (omega arith) (omega arith) refl e in absurd (omega (arith, n)),
-      λ e. let n : ◌≡◌ {A = ℕ} 1 5 = wish_tree.siblings 1 5 (omega arith) (omega arith) (omega arith) (omega arith) refl e in absurd (omega (arith, n)),
-    );
-  }
+pub directories : Directories
+unfolding parent_of parent_below
+directories = record {
+  a = first-in-a below-a.0 below-a.1;
+  c = first-in-c below-c.0 below-c.1;
+  paths = ((below-a.1.between 1 (omega arith) below-a.1.behind).1, (below-c.1.between 3 (omega arith) below-c.1.behind).1);
+  before = below-c.1.before 2 (omega arith) refl;
+  siblings = (
+    λ e. let n : ◌≡◌ {A = ℕ} 2 3 = wish_tree.siblings 2 3 (omega arith) (omega arith) (omega arith) (omega arith) refl e in absurd (omega (arith, n)),
+    λ e. let n : ◌≡◌ {A = ℕ} 1 5 = wish_tree.siblings 1 5 (omega arith) (omega arith) (omega arith) (omega arith) refl e in absurd (omega (arith, n)),
+  );
+}
 
-  -- ---- `/a/c/d`, found by its path: at 0x8000, of 3 bytes
+-- ---- `/a/c/d`, found by its path: at 0x8000, of 3 bytes
 
-  pub found-d : IsFound nodes (0x61 ∷ 0x2F ∷ 0x63 ∷ 0x2F ∷ 0x64 ∷ []) 0x8000 3
-  unfolding paths_in
-  found-d = rw (small-tree, small-free, small-offsets) at (each-is-found small (length lent) 32 0x52 granted 1 (omega arith))
+pub found-d : IsFound nodes (0x61 ∷ 0x2F ∷ 0x63 ∷ 0x2F ∷ 0x64 ∷ []) 0x8000 3
+unfolding paths_in
+found-d = rw (small-tree, small-free, small-offsets) at (each-is-found small (length lent) 32 0x52 granted 1 (omega arith))
 
-  by-path : lookup nodes 0 (0x61 ∷ 0x2F ∷ 0x63 ∷ 0x2F ∷ 0x64 ∷ []) ≡ Ok 4
-  unfolding lookup follow components components_of units child_of first_child are_same_bytes parent_of parent_below
-  by-path = refl
+by-path : lookup nodes 0 (0x61 ∷ 0x2F ∷ 0x63 ∷ 0x2F ∷ 0x64 ∷ []) ≡ Ok 4
+unfolding lookup follow components components_of units child_of first_child are_same_bytes parent_of parent_below
+by-path = refl
 
-  which-d : (k : ℕ) (nm : List ℕ) → ◌≡◌ {A = Result ℕ Refusal} (Ok k) (Ok 4) → node k ≡ file nm 0x8000 3 → (k ≡ 4) × (nm ≡ 0x64 ∷ [])
-  which-d k nm e l = let n : k ≡ 4 = cc in let f : node 4 ≡ file nm 0x8000 3 = subst (λ x. node x ≡ file nm 0x8000 3) n l in (n, cc)
+which-d : (k : ℕ) (nm : List ℕ) → ◌≡◌ {A = Result ℕ Refusal} (Ok k) (Ok 4) → node k ≡ file nm 0x8000 3 → (k ≡ 4) × (nm ≡ 0x64 ∷ [])
+which-d k nm e l = let n : k ≡ 4 = cc in let f : node 4 ≡ file nm 0x8000 3 = subst (λ x. node x ≡ file nm 0x8000 3) n l in (n, cc)
 
-  pub record Found : Type 0 where
-    pub entry : found-d.entry ≡ 4
-    pub name : found-d.name ≡ 0x64 ∷ []
+pub record Found : Type 0 where
+  pub entry : found-d.entry ≡ 4
+  pub name : found-d.name ≡ 0x64 ∷ []
 
-  pub found : Found
-  found = let w = which-d found-d.entry found-d.name (sym found-d.found ∙ by-path) found-d.lies in record { entry = w.0; name = w.1 }
+pub found : Found
+found = let w = which-d found-d.entry found-d.name (sym found-d.found ∙ by-path) found-d.lies in record { entry = w.0; name = w.1 }
 
 -- ---- 21
 
@@ -255,11 +271,11 @@ abbrev pub filled : List ℕ
 filled = put written 0x8000 clip
 
 used : (used_of written ≡ 0x495) × (used_of filled ≡ 0x495)
-unfolding written paths_in wishes common below entries_from tree_from tree are_same_bytes texts_of encode entries_bytes parent_of parent_below align_up whole_total largest_rest offsets_in_order offsets_with_last last_file offsets_of nodes_of_master header_of_master written_master put put_fields fields field_bytes blank_header be32 be24 table_of nodes_in nodes_of nodes_from node_at name_at count used_of regions_behind_table program_of program_in own_region total_size
+unfolding written paths_in wishes common below entries_from tree_from tree are_same_bytes texts_of encode entries_bytes parent_of parent_below align_up whole_total largest_rest offsets_in_order offsets_with_last last_file offsets_of nodes_of_master header_with written_master put put_fields fields field_bytes blank_header be32 be24 table_of nodes_in nodes_of nodes_from node_at name_at count used_of regions_behind_table program_of program_in own_region total_size
 used = (refl, refl)
 
 counted : ◌≡◌ {A = Result DiscTotals Refusal} (Ok (record { disc_end = disc_end filled; used = table_end filled + (program_behind filled).size + total_size (map region_of (nodes_in filled)) })) (Ok (record { disc_end = 0x8003; used = 0x495 }))
-unfolding written paths_in wishes common below entries_from tree_from tree are_same_bytes texts_of encode entries_bytes parent_of parent_below align_up whole_total largest_rest offsets_in_order offsets_with_last last_file offsets_of nodes_of_master header_of_master written_master put put_fields fields field_bytes blank_header be32 be24 table_of nodes_in nodes_of nodes_from node_at name_at count used_of regions_behind_table program_of program_in own_region total_size
+unfolding written paths_in wishes common below entries_from tree_from tree are_same_bytes texts_of encode entries_bytes parent_of parent_below align_up whole_total largest_rest offsets_in_order offsets_with_last last_file offsets_of nodes_of_master header_with written_master put put_fields fields field_bytes blank_header be32 be24 table_of nodes_in nodes_of nodes_from node_at name_at count used_of regions_behind_table program_of program_in own_region total_size
 counted = refl
 
 accepted : reports_of list written ≡ record { edit = fill_file 4 clip; accepted = true } ∷ []

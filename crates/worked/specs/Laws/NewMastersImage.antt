@@ -10,7 +10,7 @@ use Rattle.space.specs.Align.{align_up}
 use Rattle.wish_list.specs.Paths.{paths_in, path_verdict, paths_verdict, list_verdict}
 use Rattle.wish_list.specs.Tree.{wishes, common, below, entries_from, tree_from, tree}
 use Rattle.placement.specs.Placement.{whole_total, largest_rest, are_all_empty, least_end, is_placeable, offsets_in_order, offsets_with_last, last_file, offsets_of}
-use Rattle.master.specs.Master.{Master, nodes_of_master, before_place, master_verdict, header_of_master, written_master, image_with_master}
+use Rattle.master.specs.Master.{Master, nodes_of_master, before_place, master_verdict, header_with, written_master, image_with_master}
 use Rattle.worked.specs.Laws.NewMasters.{wished}
 
 -- ---- `a/b`, `a/c/d` and `e`
@@ -100,7 +100,7 @@ pub record Image : Type 0 where
   pub refused : image_with_master small (replicate 0x8002 0xEE) 32 0x52 ≡ replicate 0x8002 0xEE
 
 pub image : Image
-unfolding paths_in path_verdict paths_verdict list_verdict wishes common below entries_from tree_from tree are_same_bytes is_plain is_safe units limits is_shallow is_shallow_from dirs_open_at texts_of encode entries_bytes parent_of parent_below align_up whole_total largest_rest are_all_empty least_end is_placeable offsets_in_order offsets_with_last last_file offsets_of before_place master_verdict nodes_of_master written header_of_master written_master put put_fields fields field_bytes blank_header be32 image_with_master
+unfolding paths_in path_verdict paths_verdict list_verdict wishes common below entries_from tree_from tree are_same_bytes is_plain is_safe units limits is_shallow is_shallow_from dirs_open_at texts_of encode entries_bytes parent_of parent_below align_up whole_total largest_rest are_all_empty least_end is_placeable offsets_in_order offsets_with_last last_file offsets_of before_place master_verdict nodes_of_master written header_with written_master put put_fields fields field_bytes blank_header be32 image_with_master
 image = record {
   accepted = refl;
   less = refl;
