@@ -7,36 +7,8 @@ use Rattle.space.specs.Used.{used_regions, nonempty_regions}
 use Rattle.space.specs.Layout.{are_disjoint, is_disjoint_from_all, are_pairwise_disjoint, are_below, are_disjoint_below}
 use Rattle.placement.specs.Placement.{unused_rest, whole_total, largest_rest, are_all_empty, least_end, is_placeable, offsets_in_order, offsets_with_last, last_file, offsets_of}
 use Rattle.placement.specs.Places.{IsPlaced}
-use Rattle.placement.specs.Theorem.{Complete, Sound, Exactly, EndsLeast, EmptyAtZero, LastLargest, regions_of, PassesLayout}
-use Rattle.placement.proofs.Laws.Complete.{complete}
-use Rattle.placement.proofs.Laws.Sound.{sound, empty-at-0, last-largest}
-use Rattle.placement.proofs.Laws.Exactly.{no-placement, none-fits, ends-late, ends_there}
-use Rattle.placement.proofs.Laws.Regions.{placed-passes, passes-placed}
-
--- ---- the theorems by their names
-
-pub fits-if-placed : Complete
-fits-if-placed = complete
-
-pub placed-if-fits : Sound
-placed-if-fits = sound
-
-pub fits-exactly : Exactly
-fits-exactly t end sizes = (no-placement t end sizes, none-fits t end sizes)
-
-pub ends-least : EndsLeast
-ends-least t sizes = (λ end offsets p. ends-late t end sizes offsets p, ends_there t sizes)
-
-pub empty-files : EmptyAtZero
-empty-files = empty-at-0
-
-pub last-rest : LastLargest
-last-rest = last-largest
-
-pub layout-passes : PassesLayout
-layout-passes t end sizes offsets h = (placed-passes t end sizes offsets h, passes-placed t end sizes offsets h)
-
--- ---- applied
+use Rattle.placement.specs.Theorem.{regions_of}
+use Rattle.placement.proofs.Laws.Theorems.{fits-if-placed, placed-if-fits, fits-exactly, ends-least, empty-files, last-rest, layout-passes}
 
 abbrev pub two : List ℕ
 two = 1 ∷ 0x8000 ∷ []
