@@ -1,5 +1,5 @@
 -- What a new master is refused for, test by test. Assumes nothing.
-use Rattle.std.specs.Prelude.{Ok, Err, ℕ, suc, ◌+◌, ◌*◌, ◌^◌, ◌<◌, ◌≤◌, ◌≡◌, refl, true, false, List, [], ◌∷◌, length}
+use Rattle.std.specs.Prelude.{Ok, Err, ℕ, suc, ◌^◌, ◌<◌, ◌≤◌, ◌≡◌, refl, true, false, List, [], ◌∷◌, length}
 use Rattle.std.proofs.Common.{arith, ◌∙◌, lt-ltb, le-ltb}
 use Rattle.refusal.specs.declared.Refusal.{Refusal}
 use Rattle.refusal.specs.declared.Refusal.TheVariants.{LimitOrMemory, NotEnoughSpace}
@@ -7,8 +7,8 @@ use Rattle.tree.specs.Table.{limits}
 use Rattle.tree.proofs.Laws.RoundTrip.{within-limits}
 use Rattle.tree.proofs.Laws.WrittenEntries.{length-encode}
 use Rattle.wish_list.specs.Paths.{paths_in, list_verdict}
-use Rattle.wish_list.specs.Tree.{Wish, wishes, below, tree}
-use Rattle.wish_list.proofs.Laws.Below.{AllNamed, added-least, below-zero, below-nil, length-tree}
+use Rattle.wish_list.specs.Tree.{Wish, wishes, below}
+use Rattle.wish_list.proofs.Laws.Below.{AllNamed, added-least, below-zero, length-tree}
 use Rattle.wish_list.proofs.Laws.NameTexts.{wishes-named}
 use Rattle.wish_list.proofs.Laws.AcceptedPaths.{list-accepted}
 use Rattle.placement.specs.Placement.{is_placeable}

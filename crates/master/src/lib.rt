@@ -1,7 +1,7 @@
 // A master made from a wish list: judged, placed, and written whole.
 #![tactic(auto)]
 
-ghost use Rattle.std.specs.Prelude.{◌≡◌, ◌+◌, ◌<◌, ◌≤◌, ◌^◌, Ok, Err, replicate, IfOk, IfErr, OnOk, length};
+ghost use Rattle.std.specs.Prelude.{◌≡◌, ◌+◌, ◌<◌, ◌≤◌, Ok, Err, replicate, IfOk, IfErr, OnOk, length};
 ghost use Rattle.endian.specs.Bytes.{put};
 ghost use Rattle.header.specs.Header.{put_header};
 ghost use Rattle.opened.specs.Opening.{zeros};

@@ -3,10 +3,10 @@ use Rattle.std.specs.Prelude.{ℕ, ◌+◌, ◌^◌, ◌<◌, ◌≤◌, ◌≡�
 use Rattle.std.specs.Prelude.{Ok, None, Bool, true, false, cond, zero, suc}
 use Rattle.std.proofs.Common.{ap, ◌∙◌, arith, zero-add}
 use Rattle.std.proofs.lemmas.List.{length-replicate}
-use Rattle.endian.specs.Bytes.{be32, put, span}
+use Rattle.endian.specs.Bytes.{be32, put}
 use Rattle.endian.specs.Laws.Stored.{length-put, put-before, put-after, put_in, be32-same, span-put}
 use Rattle.header.specs.declared.value.DiscHeader.{DiscHeader}
-use Rattle.header.specs.Verdicts.{gcn_magic, wii_magic, dol_offset, fst_offset, fst_size, fst_max_size, user_size, disc_size, disc_end, table_end}
+use Rattle.header.specs.Verdicts.{gcn_magic, dol_offset, fst_offset, fst_size, user_size, disc_size, disc_end, table_end}
 use Rattle.header.specs.Header.{blank_header, header_of, put_header}
 use Rattle.header.specs.Laws.FieldTests.{GoodHeader}
 use Rattle.header.specs.Laws.RoundTrip.{Sized, length-written, written_behind, read-write}
@@ -14,7 +14,7 @@ use Rattle.tree.specs.Table.{encode}
 use Rattle.opened.specs.Opening.{table_of}
 use Rattle.space.specs.Used.{no_region}
 use Rattle.executable.specs.Program.{is_before_table, program_of, program_in, own_region, program_behind}
-use Rattle.master.specs.Master.{Master, nodes_of_master, table_size, first_free, header_with, header_of_master, written_master}
+use Rattle.master.specs.Master.{Master, nodes_of_master, table_size, first_free, header_with, header_of_master}
 
 -- what an accepted list gives of the numbers
 pub record Fits (m : Master) (image : List ℕ) : Type 0 where

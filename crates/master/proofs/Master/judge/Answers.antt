@@ -4,7 +4,7 @@ use Rattle.std.proofs.Common.{arith, sym, ◌∙◌}
 use Rattle.std.proofs.lemmas.Result.{err_from_is_err_and}
 use Rattle.tree.specs.Table.{limits}
 use Rattle.placement.specs.Placement.{is_placeable}
-use Rattle.master.specs.Master.{Master, nodes_at, table_size, first_free}
+use Rattle.master.specs.Master.{nodes_at, table_size}
 use Rattle.master.specs.Asked.{master_of}
 use Rattle.master.proofs.Judging.{refused-list, refused-limits, refused-bytes, refused-room, refused-place, granted, Few, few}
 use Rattle.master.proofs.Master.judge.Goals as goal
