@@ -1,5 +1,6 @@
 mod Names
 mod Measuring
+mod Drafting
 mod Limits
 mod Lists
 mod Sharing

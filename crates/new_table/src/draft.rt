@@ -1,6 +1,6 @@
 // A table that is written from its last entry to its first: there the end of each directory is known. Its
 // directories store the parent 0.
-ghost use Rattle.std.specs.Prelude.{◌≡◌, ℕ, ◌+◌, ◌-◌, ◌<◌, ◌≤◌, [], ◌∷◌, ◌++◌, length, drop, slice_index};
+ghost use Rattle.std.specs.Prelude.{◌≡◌, ℕ, suc, ◌+◌, ◌-◌, ◌<◌, ◌≤◌, [], ◌∷◌, ◌++◌, length, take, drop};
 ghost use Rattle.endian.specs.Bytes.{put};
 ghost use Rattle.tree.specs.Table.{file, directory};
 ghost use Rattle.wish_list.specs.Paths.{names_of};
@@ -71,6 +71,40 @@ impl Place {
             next,
         };
         record.write(bytes, place.entry);
+        place
+    }
+
+    /// Writes the entries of a path before it, the file first, but for the directories in its first `shared`
+    /// bytes; a directory with n around it, the root with them, ends before entry `ends[n]`.
+    pub fn write_path(
+        self,
+        bytes: &mut [u8],
+        texts: usize,
+        path: &[u8],
+        shared: usize,
+        entry: FileEntry,
+        ends: &[u32],
+    ) -> Place
+        requires shared { shared ≤ length path.now }
+        requires ends { slashes path.now < length ends.now }
+        requires room { let own = drop shared path.now in
+            HasRoom bytes.old texts self.entry self.text (suc (slashes own)) (suc (length own)) }
+        ensures entry { result.entry + suc (slashes (drop shared path.now)) ≡ self.entry }
+        ensures text { result.text + suc (length path.now - shared) ≡ self.text }
+        ensures bytes { let n = slashes (take shared path.now) in
+            let names = names_of (drop shared path.now) in
+            let xs = path_entries ends.now n names entry.offset entry.size in
+            bytes.new ≡ entries_put texts result.entry result.text xs bytes.old }
+    {
+        let mut n = path::slashes(path);
+        let mut start = path::part_start(path, b'/', shared, path.len());
+        let mut place = self.write_file(bytes, texts, &path[start..], entry);
+        while shared < start {
+            let end = start - 1;
+            start = path::part_start(path, b'/', shared, end);
+            place = place.write_directory(bytes, texts, &path[start..end], ends[n]);
+            n -= 1;
+        }
         place
     }
 }
