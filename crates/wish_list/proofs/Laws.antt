@@ -3,3 +3,4 @@ pub mod Below
 pub mod Sound
 pub mod Shallow
 pub mod NameTexts
+pub mod AcceptedPaths

@@ -5,7 +5,7 @@ use Rattle.std.proofs.lemmas.Bool.{lt-leb}
 use Rattle.tree.specs.Table.{Node, top, dirs_open_at}
 use Rattle.tree.specs.Inner.WellFormed.{IsGoodName, IsSound, IsWellFormed}
 use Rattle.wish_list.specs.Tree.{Wish, common, added, below, entries_from, tree_from, tree}
-use Rattle.wish_list.proofs.Laws.Below.{common-less, common-most, added-least, below-in, below-out, below-zero, below-falls, below-most, length-tree_from}
+use Rattle.wish_list.proofs.Laws.Below.{AllNamed, common-less, common-most, added-least, below-in, below-out, below-zero, below-falls, below-most, length-tree_from}
 
 -- ---- the directories open where a file was written
 
@@ -123,3 +123,8 @@ tree-sound ws g =
       root = rw l;
       sound = rw s at (tree_from-sound (suc (length (tree_from 1 [] ws))) 1 [] ws g (omega arith));
     }
+
+-- each of them has a name
+pub good-named : (ws : List Wish) → AllGoodWishes ws → AllNamed ws
+good-named [] g = tt
+good-named (w ∷ ws) g = ((g.0).named, good-named ws g.1)
