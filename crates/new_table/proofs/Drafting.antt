@@ -46,11 +46,11 @@ span-none path start end a b f i h e =
     let l : length (span path start (end - start)) ≡ end - start = length-span path start (end - start) (omega arith) in
     f (start + i) (omega arith) (omega arith) (sym (get_d-span path start (end - start) i (omega arith)) ∙ e)
 
--- the name before a `/`
-pub cut-name : (path : List ℕ) (start end : ℕ) → start ≤ end → end < length path → get_or path end 0 ≡ 0x2F → drop start path ≡ span path start (end - start) ++ (0x2F ∷ drop (suc end) path)
-cut-name path start end a b e =
+-- the part before a byte b
+pub cut-part : (b : ℕ) (path : List ℕ) (start end : ℕ) → start ≤ end → end < length path → get_or path end 0 ≡ b → drop start path ≡ span path start (end - start) ++ (b ∷ drop (suc end) path)
+cut-part b path start end h l e =
     let m : start + (end - start) ≡ end = omega arith in
-    let d : drop (end - start) (drop start path) ≡ 0x2F ∷ drop (suc end) path = drop-drop (end - start) start path ∙ rw (m, drop-cons path end 0 b, e) refl in
+    let d : drop (end - start) (drop start path) ≡ b ∷ drop (suc end) path = drop-drop (end - start) start path ∙ rw (m, drop-cons path end 0 l, e) refl in
     sym (take-append-drop (end - start) (drop start path)) ∙ ap (λ (l : List ℕ). span path start (end - start) ++ l) d
 
 -- ---- what is written keeps the length
@@ -105,7 +105,7 @@ module _ (old path ends : List ℕ) (texts shared last behind offset size : ℕ)
       parts : drop start' path ≡ name ++ (0x2F ∷ drop start path)
       parts =
           let s : suc (start - 1) ≡ start = omega arith in
-          rw s at (cut-name path start' (start - 1) c.before (omega (arith, d.within)) slash)
+          rw s at (cut-part 0x2F path start' (start - 1) c.before (omega (arith, d.within)) slash)
 
       plain : NoSlash name
       plain = span-none path start' (start - 1) c.before (omega (arith, d.within)) c.none

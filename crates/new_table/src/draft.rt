@@ -1,6 +1,6 @@
 // A table that is written from its last entry to its first: there the end of each directory is known. Its
 // directories store the parent 0.
-ghost use Rattle.std.specs.Prelude.{◌≡◌, ℕ, suc, ◌+◌, ◌-◌, ◌<◌, ◌≤◌, [], ◌∷◌, ◌++◌, length, take, drop};
+ghost use Rattle.std.specs.Prelude.{◌≡◌, ℕ, suc, ◌+◌, ◌-◌, ◌<◌, ◌≤◌, [], ◌∷◌, ◌++◌, length, take, drop, slice_index};
 ghost use Rattle.endian.specs.Bytes.{put};
 ghost use Rattle.tree.specs.Table.{file, directory};
 ghost use Rattle.wish_list.specs.Paths.{names_of};
@@ -16,6 +16,17 @@ use tree::FileEntry;
 pub struct Place {
     pub entry: usize,
     pub text: usize,
+}
+
+/// Lets directories with `from` to `to` directories around them, the root with them, end before entry `next`.
+pub fn close(ends: &mut [u32], from: usize, to: usize, next: u32)
+    requires { to < length ends.old }
+    ensures closed { (j : ℕ) → from ≤ j → j ≤ to → slice_index ends.new j ≡ next }
+    ensures kept { (j : ℕ) → j < from → slice_index ends.new j ≡ slice_index ends.old j }
+{
+    for n in from..to + 1 {
+        ends[n] = next;
+    }
 }
 
 // Writes a name and its zero byte.

@@ -1,7 +1,7 @@
 -- A table that is written from its last entry to its first, with the parent 0 in each record. Assumes nothing: these are definitions.
 use Rattle.std.specs.Prelude.{ℕ, suc, ◌+◌, ◌-◌, ◌*◌, ◌^◌, ◌<◌, ◌≤◌, List, [], ◌∷◌, ◌++◌, length, slice_index}
 use Rattle.endian.specs.Bytes.{put}
-use Rattle.tree.specs.Table.{Node, file, directory, name_of, node_bytes}
+use Rattle.tree.specs.Table.{Node, file, directory, name_of, node_bytes, entries_bytes, texts_of}
 
 -- the record of entry k and its name at `text`, where the names start at `texts`
 unfoldable pub entry_put : ℕ → ℕ → ℕ → Node → List ℕ → List ℕ
@@ -17,6 +17,11 @@ unfoldable pub path_entries : List ℕ → ℕ → List (List ℕ) → ℕ → �
 path_entries ends n [] offset size = []
 path_entries ends n (name ∷ []) offset size = file name offset size ∷ []
 path_entries ends n (name ∷ next ∷ names) offset size = directory name (slice_index ends (suc n)) ∷ path_entries ends (suc n) (next ∷ names) offset size
+
+-- a whole table, with the parent 0 in each record
+unfoldable pub draft_bytes : List Node → List ℕ
+draft_bytes [] = []
+draft_bytes (root ∷ xs) = node_bytes 0 0 root ++ (entries_bytes [] 1 0 xs ++ texts_of xs)
 
 -- n entries with so many bytes of names fit between the root and entry k, between `texts` and `text`
 pub record HasRoom (bytes : List ℕ) (texts k text n names : ℕ) : Type 0 where
