@@ -1,6 +1,7 @@
 mod Names
 mod Measuring
 mod Drafting
+mod Fronts
 mod Holding
 mod Limits
 mod Lists
