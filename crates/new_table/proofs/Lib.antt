@@ -2,6 +2,7 @@ mod Names
 mod Measuring
 mod Drafting
 mod Fronts
+mod Going
 mod Holding
 mod Limits
 mod Lists
