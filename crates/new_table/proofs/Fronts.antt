@@ -140,7 +140,7 @@ unfolding last_or
 last_or-push b [] q = refl
 last_or-push b (p ∷ ps) q = last_or-push p ps q
 
-no-bytes : (s : List ℕ) → length s ≡ 0 → s ≡ []
+pub no-bytes : (s : List ℕ) → length s ≡ 0 → s ≡ []
 no-bytes [] h = refl
 no-bytes (x ∷ s) h = absurd (omega arith)
 

@@ -5,19 +5,21 @@ use Rattle.std.proofs.Common.{sym, ap, ◌∙◌, ⊎_elim, arith, add-zero, get
 use Rattle.std.proofs.lemmas.List.{drop_all}
 use mathlib.Core.List.{tail}
 use Rattle.refusal.specs.Laws.Tests.{lt-or-le}
-use Rattle.tree.specs.Table.{Node, directory, texts_of}
+use Rattle.tree.specs.Table.{Node, directory, node_bytes, texts_of}
 use Rattle.wish_list.specs.Paths.{paths_in, names_of}
 use Rattle.wish_list.specs.Tree.{Wish, wishes, common, added, below, entries_from, entries_with, tree_from, tree}
-use Rattle.wish_list.proofs.Laws.Below.{common-less, below-in, below-out, below-nil, length-entries_with, length-tree_from}
+use Rattle.wish_list.proofs.Laws.Below.{common-less, below-in, below-out, below-nil, length-entries_with, length-tree_from, length-tree}
 use Rattle.wish_list.proofs.Laws.NameTexts.{texts_of-append, texts_of-entries_from, length-name_texts, name_texts_total, texts-tree_from, texts_total}
+use Rattle.endian.specs.Bytes.{put}
+use Rattle.new_table.specs.Trees.{tree_of}
 use Rattle.new_table.specs.Inner.Cuts.{IsPathBefore}
 use Rattle.new_table.specs.Inner.Steps.{slashes, shared_bytes, own_part, entries_behind, texts_behind, is_shallow_path}
-use Rattle.new_table.specs.Inner.Drafts.{entries_put, path_entries, HasRoom}
+use Rattle.new_table.specs.Inner.Drafts.{entries_put, path_entries, draft_bytes, HasRoom}
 use Rattle.new_table.proofs.Names.{length-names_of, some-names, Shares, shares, added-bytes}
-use Rattle.new_table.proofs.Limits.{entries_behind-below, texts_behind-total, name_texts_total-names_of}
+use Rattle.new_table.proofs.Limits.{tree-entries, entries_behind-below, texts_behind-total, name_texts_total-names_of}
 use Rattle.new_table.proofs.Drafting.{slashes-split}
-use Rattle.new_table.proofs.Holding.{Holds, holds-none, holds-entries}
-use Rattle.new_table.proofs.Fronts.{At, rest-is, entries-most, texts-most, shallow-at, at-before}
+use Rattle.new_table.proofs.Holding.{Holds, holds-none, holds-entries, holds-all}
+use Rattle.new_table.proofs.Fronts.{At, rest-is, entries-most, texts-most, shallow-at, at-before, at-start, no-bytes}
 
 -- a measured list of paths, within the limits
 pub record Fitting (paths : List ℕ) (count size : ℕ) : Type 0 where
@@ -53,6 +55,15 @@ going-none paths sizes offsets count size i path ends bytes f room n a long each
       holds = rw d (holds-none bytes count size (omega (arith, f.sized)) room);
       ended = λ j p q. rw d (each j (omega (arith, shallow-at paths (length paths) path a f.shallow)) ∙ omega arith);
     }
+
+module _ (paths sizes offsets : List ℕ) (count size i end : ℕ) (path ends : List ℕ) (entry text : ℕ) (bytes : List ℕ) (g : Going paths sizes offsets count size i end path ends entry text bytes) where
+  entry-going : entry + entries_behind path (paths_in (drop end paths)) ≡ count
+  entry-going =
+      omega (arith, (g.holds).numbers, length-tree_from entry (names_of path) (left paths sizes offsets i end), entries_behind-below path (paths_in (drop end paths)) (drop i sizes) (drop i offsets))
+
+  text-going : text + texts_behind path (paths_in (drop end paths)) ≡ size
+  text-going =
+      omega (arith, g.sized, texts-tree_from entry (names_of path) (left paths sizes offsets i end), texts_behind-total path (paths_in (drop end paths)) (drop i sizes) (drop i offsets))
 
 -- ---- one path more
 
@@ -107,12 +118,10 @@ module _
     texts-left = rw rest-next at (texts-most paths end' before place-next)
 
     entry-is : entry + entries_behind path (paths_in (drop end paths)) ≡ count
-    entry-is =
-        omega (arith, (g.holds).numbers, length-tree_from entry (names_of path) (left paths sizes offsets i end), entries_behind-below path (paths_in (drop end paths)) (drop i sizes) (drop i offsets))
+    entry-is = entry-going paths sizes offsets count size i end path ends entry text bytes g
 
     text-is : text + texts_behind path (paths_in (drop end paths)) ≡ size
-    text-is =
-        omega (arith, g.sized, texts-tree_from entry (names_of path) (left paths sizes offsets i end), texts_behind-total path (paths_in (drop end paths)) (drop i sizes) (drop i offsets))
+    text-is = text-going paths sizes offsets count size i end path ends entry text bytes g
 
     pub going-room : (r : ℕ) → r ≡ shared_bytes before path → HasRoom bytes (12 * count) entry text (suc (slashes (drop r path))) (suc (length (drop r path)))
     going-room r s =
@@ -204,3 +213,27 @@ module _
                 kept j (omega arith) ∙ g.ended j a m ∙ omega (arith, below-in j (names_of before) w ws h, added-bytes before path))
                 (lt-or-le (common (names_of before) (names_of path)) j));
           }
+
+-- ---- all of them
+
+-- with no file before, as with one in the root
+tree_from-first : (k : ℕ) (ws : List Wish) → tree_from k [] ws ≡ tree_from k ([] ∷ []) ws
+unfolding tree_from common
+tree_from-first k [] = refl
+tree_from-first k (v ∷ vs) = refl
+
+pub going-all : (paths sizes offsets : List ℕ) (count size i end : ℕ) (path ends : List ℕ) (entry text : ℕ) (bytes : List ℕ) → Fitting paths count size → Going paths sizes offsets count size i end path ends entry text bytes → i ≡ 0 →
+    take size (put bytes 0 (node_bytes 0 0 (directory [] count))) ≡ draft_bytes (tree_of paths sizes offsets)
+unfolding tree
+going-all paths sizes offsets count size i end path ends entry text bytes f g z =
+    let e : end ≡ 0 = at-start paths end path g.place (omega (arith, g.number)) in
+    let p : path ≡ [] = no-bytes path (((g.place).before).first e) in
+    let n : entry + entries_behind [] (paths_in paths) ≡ count = rw (p, e) at (entry-going paths sizes offsets count size i end path ends entry text bytes g) in
+    let t : text + texts_behind [] (paths_in paths) ≡ size = rw (p, e) at (text-going paths sizes offsets count size i end path ends entry text bytes g) in
+    let one : entry ≡ 1 = omega (arith, f.counted) in
+    let start : text ≡ 12 * count = omega (arith, f.sized) in
+    let ws : List Wish = wishes (paths_in paths) sizes offsets in
+    let h : Holds bytes count 1 (12 * count) (tree_from 1 ([] ∷ []) ws) = rw (p, e, z, one, start) at g.holds in
+    let s : text + length (texts_of (tree_from 1 ([] ∷ []) ws)) ≡ size = rw (p, e, z, one) at g.sized in
+    let c : count ≡ suc (below 0 [] ws) = omega (arith, f.counted, length-tree ws, tree-entries (paths_in paths) sizes offsets) in
+    holds-all bytes count size (directory [] count) (tree_from 1 ([] ∷ []) ws) h (omega arith) ∙ rw (c, tree_from-first 1 ws) refl

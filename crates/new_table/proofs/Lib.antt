@@ -3,6 +3,7 @@ mod Measuring
 mod Drafting
 mod Fronts
 mod Going
+mod Fitted
 mod Holding
 mod Limits
 mod Lists
