@@ -8,3 +8,4 @@ mod Holding
 mod Limits
 mod Lists
 mod Sharing
+mod Written

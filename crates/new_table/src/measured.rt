@@ -1,5 +1,6 @@
 // The table of a new master, measured and within the limits.
-ghost use Rattle.std.specs.Prelude.{◌≡◌, ◌+◌, ◌*◌, ◌≤◌, [], length, take, Ok, Err, IsTrue, is_ok, IfOk, IfErr};
+ghost use Rattle.std.specs.Prelude.{◌≡◌, ℕ, ◌+◌, ◌*◌, ◌^◌, ◌<◌, ◌≤◌, [], length, take, slice_index, Ok, Err, IsTrue, is_ok, IfOk, IfErr};
+ghost use Rattle.endian.specs.Bytes.{put};
 ghost use Rattle.tree.specs.Table.{encode, limits};
 ghost use Rattle.wish_list.specs.Paths.{list_verdict};
 ghost use Rattle.new_table.specs.Inner.Drafts.{draft_bytes};
@@ -32,6 +33,12 @@ pub struct NewTable<'a> {
     pub ghost within: { IsTrue (is_ok (limits (tree_of paths.now sizes.now []) (4 * (entries + 2)))) },
 }
 
+// Does nothing: that each number fits 4 bytes is known where the slice is a parameter.
+fn bound(numbers: &[u32])
+    ensures { (i : ℕ) → slice_index numbers.now i < 2 ^ 32 }
+{
+}
+
 impl<'a> NewTable<'a> {
     /// Measures the table of a wish list; 9 if its tree passes a limit, or if `words`, how many working
     /// words are lent, are too few for it.
@@ -59,6 +66,21 @@ impl<'a> NewTable<'a> {
         ensures { result ≡ length (encode (tree_of self.now.paths.now self.now.sizes.now [])) }
     {
         self.size
+    }
+
+    /// Writes the table with the files at these offsets, one for each size. What is in `bytes` is lost.
+    pub fn write(&self, offsets: &[u32], bytes: &mut [u8], out: &mut [u8])
+        requires offsets { length offsets.now ≡ length self.now.sizes.now }
+        requires bytes { let list = self.now in
+            length (encode (tree_of list.paths.now list.sizes.now [])) ≤ length bytes.old }
+        requires out { let list = self.now in
+            length (encode (tree_of list.paths.now list.sizes.now [])) ≤ length out.old }
+        ensures { let list = self.now in
+            out.new ≡ put out.old 0 (encode (tree_of list.paths.now list.sizes.now offsets.now)) }
+    {
+        bound(self.sizes);
+        self.write_draft(offsets, bytes);
+        table_writing::write_table(&bytes[..self.size], out);
     }
 
     // Writes the table into `bytes`, each record with the parent 0: from the last path to the first, since
