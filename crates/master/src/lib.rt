@@ -6,7 +6,7 @@ ghost use Rattle.endian.specs.Bytes.{put};
 ghost use Rattle.header.specs.Header.{put_header};
 ghost use Rattle.opened.specs.Opening.{zeros};
 ghost use Rattle.master.specs.Master.{header_with, master_verdict, written_master, image_with_master};
-ghost use Rattle.master.specs.Asked.{master_of};
+ghost use Rattle.master.specs.Asked.{wished, master_of};
 ghost use Rattle.master.specs.Theorem.{TreeIsWishList, EachIsFound, RefusedExactly, NewMasterOpens, AnyListFollows};
 
 use header::{DiscHeader, HEADER_LEN};
@@ -70,24 +70,29 @@ impl<'a> Master<'a> {
         }
         Ok(table)
     }
+}
 
-    // Writes the image of a list that is granted. The offsets go into the words, a draft of the table into the
-    // bytes.
-    fn write(self, image: &mut [u8], table: &NewTable<'_>, words: &mut [u32], bytes: &mut [u8]) -> Verdict
-        requires granted { let master = master_of self.entry in
-            master_verdict master (length image.old) (length words.old) (length bytes.old) ≡ Ok tt }
-        requires paths { table.now.paths.now ≡ self.entry.paths.now }
-        requires sizes { table.now.sizes.now ≡ self.entry.sizes.now }
-        ensures answer { result ≡ Ok tt }
-        ensures image_after { image.new ≡ written_master (master_of self.entry) image.old }
-    {
-        let size = table.size();
-        placement::place(HEADER_LEN + size, self.sizes, words);
-        write_blank(image, self.game_code, self.disc_end, size as u32)?;
-        let offsets = &words[..self.sizes.len()];
-        table.write(offsets, bytes, &mut image[HEADER_LEN..]);
-        Ok(())
-    }
+// Writes the image of a list that is granted. The offsets go into the words, a draft of the table into the bytes.
+fn write_granted(
+    image: &mut [u8],
+    game_code: [u8; 4],
+    disc_end: u32,
+    table: &NewTable<'_>,
+    words: &mut [u32],
+    bytes: &mut [u8],
+) -> Verdict
+    requires { let asked = wished game_code disc_end table.now.sizes.now table.now.paths.now in
+        master_verdict asked (length image.old) (length words.old) (length bytes.old) ≡ Ok tt }
+    ensures answer { result ≡ Ok tt }
+    ensures image_after { let asked = wished game_code disc_end table.now.sizes.now table.now.paths.now in
+        image.new ≡ written_master asked image.old }
+{
+    let size = table.size();
+    let sizes = table.sizes;
+    placement::place(HEADER_LEN + size, sizes, words);
+    write_blank(image, game_code, disc_end, size as u32)?;
+    table.write(&words[..sizes.len()], bytes, &mut image[HEADER_LEN..]);
+    Ok(())
 }
 
 /// Writes a fresh image over what the buffer holds below the disc end: the header, with the game code, the
@@ -110,7 +115,14 @@ pub fn write_master(image: &mut [u8], master: Master<'_>, words: &mut [u32], byt
     let words = Lent::new(words);
     let bytes = Lent::new(bytes);
     let table = master.judge(image.len(), words.memory.len(), bytes.memory.len())?;
-    master.write(image, &table, words.memory, bytes.memory)
+    write_granted(
+        image,
+        master.game_code,
+        master.disc_end,
+        &table,
+        words.memory,
+        bytes.memory,
+    )
 }
 
 // ---- The theorems about every new master, each the promise of a function that does nothing: what they say is

@@ -47,11 +47,11 @@ passed-before m room words bytes e =
     let d = refuse-passed (ltb room m.disc_end) LimitOrMemory _ c.1 in
     record { listed = a.0; limited = b.0; bytes_fit = ltb-false _ _ c.0; room_fits = ltb-false _ _ d.0 }
 
-module _ (m : Master) (room words bytes : ℕ) (g : IsGranted m room words bytes) where
+module _ (m : Master) (room words bytes : ℕ) (e : master_verdict m room words bytes ≡ Ok tt) where
   both : (before_place m room words bytes ≡ Ok tt) × (is_placeable (first_free m) m.disc_end m.sizes ≡ true)
   unfolding master_verdict
   both =
-      let a = first-passed (before_place m room words bytes) _ g.granted in
+      let a = first-passed (before_place m room words bytes) _ e in
       let b = refuse-passed (not (is_placeable (first_free m) m.disc_end m.sizes)) NotEnoughSpace _ a.1 in
       (a.0, not-false (is_placeable (first_free m) m.disc_end m.sizes) b.0)
 
@@ -114,16 +114,16 @@ module _ (m : Master) (image : List ℕ) (words bytes : ℕ) (g : IsGranted m (l
   new = written_master m image
 
   p : Passed m (length image) words bytes
-  p = passed m (length image) words bytes g
+  p = passed m (length image) words bytes g.granted
 
   at : IsPlaced (first_free m) m.disc_end m.sizes offsets
-  at = placed m (length image) words bytes g
+  at = placed m (length image) words bytes g.granted
 
   pub well : IsWellFormed (nodes_of_master m)
   unfolding nodes_of_master
   well =
       accepted-sound m.paths m.sizes offsets p.listed g.passable.sizes
-      (λ i. omega (arith, g.passable.end, offsets-below (first_free m) m.disc_end m.sizes (placeable m (length image) words bytes g) i))
+      (λ i. omega (arith, g.passable.end, offsets-below (first_free m) m.disc_end m.sizes (placeable m (length image) words bytes g.granted) i))
 
   pub size-same : length (encode (nodes_of_master m)) ≡ table_size m
   unfolding nodes_of_master
@@ -176,7 +176,7 @@ new-master-opens m image words bytes g =
       opens = opens-new m image words bytes g;
       tree = nodes-new m image words bytes g;
       end = disc-end-new m image f;
-      placed = placed m (length image) words bytes g;
+      placed = placed m (length image) words bytes g.granted;
       zero = zero-new m image f;
       behind = behind-new m image f;
       length = length-new m image f;

@@ -104,7 +104,7 @@ module _ (paths : List (List ℕ)) (sizes offsets : List ℕ) (passed : HaveAllP
 
 module _ (m : Master) (room words bytes : ℕ) (g : IsGranted m room words bytes) where
   listed : list_verdict m.paths (length m.sizes) ≡ Ok tt
-  listed = (passed m room words bytes g).listed
+  listed = (passed m room words bytes g.granted).listed
 
   accepted : IsAccepted m.paths (length m.sizes)
   accepted = list-accepted m.paths (length m.sizes) listed
@@ -113,7 +113,7 @@ module _ (m : Master) (room words bytes : ℕ) (g : IsGranted m room words bytes
   unfolding nodes_of_master
   well =
       accepted-sound m.paths m.sizes (offsets_of (first_free m) m.sizes) listed g.passable.sizes
-      (λ i. omega (arith, g.passable.end, offsets-below (first_free m) m.disc_end m.sizes (placeable m room words bytes g) i))
+      (λ i. omega (arith, g.passable.end, offsets-below (first_free m) m.disc_end m.sizes (placeable m room words bytes g.granted) i))
 
 -- THEOREM
 pub tree-is-wish-list : TreeIsWishList

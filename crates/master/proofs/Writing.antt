@@ -1,0 +1,60 @@
+-- What a list that is granted has for the writing: room for table, offsets and image; and the image in its parts. Assumes nothing.
+use Rattle.std.specs.Prelude.{Ok, ℕ, ◌+◌, ◌-◌, ◌≤◌, ◌≡◌, refl, List, [], ◌++◌, length, take, drop, replicate}
+use Rattle.std.proofs.Common.{arith, ap, ◌∙◌, length-drop}
+use Rattle.std.proofs.lemmas.List.{take_all, drop-drop, append-nil}
+use Rattle.std.proofs.Math.ListN.{drop_of_length-le}
+use Rattle.std.proofs.Math.Seq.{take-append_seam}
+use borrow.Rule.Slice.PartMut.{put_mid}
+use Rattle.endian.specs.Bytes.{put}
+use Rattle.header.specs.Header.{put_header}
+use Rattle.tree.specs.Table.{encode}
+use Rattle.wish_list.specs.Paths.{paths_in}
+use Rattle.wish_list.proofs.Laws.NameTexts.{encode-length-placed}
+use Rattle.placement.specs.Placement.{least_end, offsets_of}
+use Rattle.placement.proofs.Laws.Exactly.{is_placeable-least_end}
+use Rattle.placement.proofs.Laws.Offsets.{length-offsets_of}
+use Rattle.master.specs.Master.{Master, nodes_at, nodes_of_master, table_size, first_free, header_of_master, master_verdict, written_master}
+use Rattle.master.proofs.Laws.Opens.{Passed, passed, placeable, placed}
+use Rattle.master.proofs.Judging.{Few, few}
+
+pub record Ready (m : Master) (room words bytes : ℕ) : Type 0 where
+  pub few : Few m words
+  pub bytes_fit : table_size m ≤ bytes
+  pub room_fits : m.disc_end ≤ room
+  pub least : least_end (first_free m) m.sizes ≤ m.disc_end
+  pub table : first_free m ≤ m.disc_end
+
+pub ready : (m : Master) (room words bytes : ℕ) → master_verdict m room words bytes ≡ Ok tt → Ready m room words bytes
+ready m room words bytes e =
+    let p = passed m room words bytes e in
+    record {
+      few = few m words p.listed p.limited;
+      bytes_fit = p.bytes_fit;
+      room_fits = p.room_fits;
+      least = is_placeable-least_end (first_free m) m.disc_end m.sizes (placeable m room words bytes e);
+      table = (placed m room words bytes e).table;
+    }
+
+-- what is put at the front of the part from `at` to the end is put at `at`
+pub tail-put : (s : List ℕ) (at : ℕ) (bs : List ℕ) → at + length bs ≤ length s → put_mid at (length s - at) s (put (take (length s - at) (drop at s)) 0 bs) ≡ put s at bs
+unfolding put
+tail-put s at bs h =
+    let n : ℕ = length s - at in
+    let t : take n (drop at s) ≡ drop at s = take_all n (drop at s) (omega (arith, length-drop at s)) in
+    let e : drop (0 + length bs) (drop at s) ≡ drop (at + length bs) s = ap (λ (i : ℕ). drop i (drop at s)) (omega arith) ∙ drop-drop (length bs) at s in
+    let z : drop n (drop at s) ≡ [] = drop-drop n at s ∙ drop_of_length-le s (omega arith) in
+    rw (t, e, z, append-nil (bs ++ drop (at + length bs) s))
+
+-- the offsets stand in front of the words
+pub offsets-front : (m : Master) (rest : List ℕ) → take (length m.sizes) (offsets_of (first_free m) m.sizes ++ rest) ≡ offsets_of (first_free m) m.sizes
+offsets-front m rest = rw (← length-offsets_of (first_free m) m.sizes) (take-append_seam (offsets_of (first_free m) m.sizes) rest)
+
+-- the table with these offsets has the size that was measured
+pub table-sized : (m : Master) → length (encode (nodes_of_master m)) ≡ table_size m
+unfolding nodes_of_master
+table-sized m = encode-length-placed (paths_in m.paths) m.sizes (offsets_of (first_free m) m.sizes) m.sizes []
+
+-- the image in its parts
+pub in-parts : (m : Master) (image : List ℕ) → put (put_header (header_of_master m) (put image 0 (replicate m.disc_end 0))) 0x440 (encode (nodes_at m (offsets_of (first_free m) m.sizes))) ≡ written_master m image
+unfolding written_master nodes_of_master
+in-parts m image = refl
