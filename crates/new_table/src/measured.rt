@@ -33,11 +33,11 @@ pub struct NewTable<'a> {
     pub ghost within: { IsTrue (is_ok (limits (tree_of paths.now sizes.now []) (4 * (entries + 2)))) },
 }
 
-// Does nothing: that each number fits 4 bytes is known where the slice is a parameter.
+// That each number fits 4 bytes. It does nothing: of a slice that is a parameter the proof knows it, of a field
+// it does not.
 fn bound(numbers: &[u32])
     ensures { (i : ℕ) → slice_index numbers.now i < 2 ^ 32 }
-{
-}
+{}
 
 impl<'a> NewTable<'a> {
     /// Measures the table of a wish list; 9 if its tree passes a limit, or if `words`, how many working
@@ -111,7 +111,12 @@ impl<'a> NewTable<'a> {
             };
             place = place.write_path(bytes, texts, path, shared, entry, &ends);
             let depth = path::slashes(&path[..shared]);
-            draft::close(&mut ends, depth + 1, path::slashes(before), place.entry as u32);
+            draft::close(
+                &mut ends,
+                depth + 1,
+                path::slashes(before),
+                place.entry as u32,
+            );
             path = before;
         }
         let root = Record {
