@@ -1,5 +1,5 @@
-// A table that is written from its last entry to its first: there the end of each directory is known. Its
-// directories store the parent 0.
+// A table that is written from its last entry to its first, where it is known where each directory ends.
+// Its directories store the parent 0.
 ghost use Rattle.std.specs.Prelude.{◌≡◌, ℕ, suc, ◌+◌, ◌-◌, ◌<◌, ◌≤◌, [], ◌∷◌, ◌++◌, length, take, drop, slice_index};
 ghost use Rattle.endian.specs.Bytes.{put};
 ghost use Rattle.tree.specs.Table.{file, directory};
@@ -18,7 +18,7 @@ pub struct Place {
     pub text: usize,
 }
 
-/// Lets directories with `from` to `to` directories around them, the root with them, end before entry `next`.
+/// Lets the directories that are `from` to `to` deep end before entry `next`; `ends` is by their depth.
 pub fn close(ends: &mut [u32], from: usize, to: usize, next: u32)
     requires { to < length ends.old }
     ensures closed { (j : ℕ) → from ≤ j → j ≤ to → slice_index ends.new j ≡ next }
@@ -86,8 +86,8 @@ impl Place {
         place
     }
 
-    /// Writes the entries of a path before it, the file first, but for the directories in its first `shared`
-    /// bytes; a directory with n around it, the root with them, ends before entry `ends[n]`.
+    /// Writes the entries of a path before it, the file first, but for the directories in its first
+    /// `shared` bytes. A directory that is n deep ends before entry `ends[n]`.
     pub fn write_path(
         self,
         bytes: &mut [u8],

@@ -33,8 +33,8 @@ pub struct NewTable<'a> {
     pub ghost within: { IsTrue (is_ok (limits (tree_of paths.now sizes.now []) (4 * (entries + 2)))) },
 }
 
-// That each number fits 4 bytes. It does nothing: of a slice that is a parameter the proof knows it, of a field
-// it does not.
+// Does nothing: that each number fits 4 bytes the proof knows of a slice that is a parameter, and not of a
+// field.
 fn bound(numbers: &[u32])
     ensures { (i : ℕ) → slice_index numbers.now i < 2 ^ 32 }
 {}
