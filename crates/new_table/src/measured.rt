@@ -30,7 +30,8 @@ pub struct NewTable<'a> {
     /// How many bytes its table is.
     pub ghost measured: { size ≡ length (encode (tree_of paths.now sizes.now [])) },
     /// The tree is within the limits, with as many words as it needs.
-    pub ghost within: { IsTrue (is_ok (limits (tree_of paths.now sizes.now []) (4 * (entries + 2)))) },
+    pub ghost within: { let nodes = tree_of paths.now sizes.now [] in
+        IsTrue (is_ok (limits nodes (4 * (entries + 2)))) },
 }
 
 // Does nothing: that each number fits 4 bytes the proof knows of a slice that is a parameter, and not of a
