@@ -1,0 +1,45 @@
+-- Bytes cut into paths, one after the other. Assumes nothing.
+use Rattle.std.specs.Prelude.{ℕ, zero, suc, ◌+◌, ◌<◌, ◌≡◌, refl, false, List, [], ◌∷◌, length, take, drop}
+use Rattle.std.proofs.Common.{ap, ◌∙◌, arith}
+use Rattle.std.proofs.lemmas.Bool.Decides.{nat_tests}
+use Rattle.tree.specs.Table.{first_text}
+use Rattle.wish_list.specs.Paths.{paths_in, onto_path, is_zero}
+
+pub is_zero-suc : (b : ℕ) → is_zero (suc b) ≡ false
+is_zero-suc b = grind (arith, nat_tests)
+
+-- a byte that is no zero byte goes to the first path
+pub paths_in-more : (b : ℕ) (s : List ℕ) → paths_in (suc b ∷ s) ≡ onto_path (suc b) (paths_in s)
+unfolding paths_in
+paths_in-more b s = rw (is_zero-suc b)
+
+pub length-onto_path : (b : ℕ) (paths : List (List ℕ)) → length (onto_path b paths) ≡ length paths
+length-onto_path b [] = refl
+length-onto_path b (path ∷ paths) = refl
+
+onto-some : (b : ℕ) (paths : List (List ℕ)) → 0 < length (onto_path b paths) → 0 < length paths
+onto-some b [] h = h
+onto-some b (path ∷ paths) h = omega arith
+
+-- where a path is left, there is a zero byte behind it
+pub ended : (bytes : List ℕ) → 0 < length (paths_in bytes) → length (first_text bytes) < length bytes
+unfolding paths_in
+ended [] h = h
+ended (zero ∷ s) h = omega arith
+ended (suc b ∷ s) h = let r = ended s (onto-some (suc b) (paths_in s) (rw paths_in-more at h)) in omega arith
+
+-- LAW: the first path is taken off
+pub paths_in-first : (bytes : List ℕ) → 0 < length (paths_in bytes) → paths_in bytes ≡ first_text bytes ∷ paths_in (drop (length (first_text bytes) + 1) bytes)
+unfolding paths_in
+paths_in-first [] h = absurd (omega arith)
+paths_in-first (zero ∷ s) h = refl
+paths_in-first (suc b ∷ s) h =
+    let r = paths_in-first s (onto-some (suc b) (paths_in s) (rw paths_in-more at h)) in
+    let n : suc (length (first_text s)) + 1 ≡ suc (length (first_text s) + 1) = omega arith in
+    rw n (paths_in-more b s ∙ ap (onto_path (suc b)) r)
+
+-- a text is the front of what it is read from
+pub first_text-front : (bytes : List ℕ) (n : ℕ) → n ≡ length (first_text bytes) → take n bytes ≡ first_text bytes
+first_text-front [] n e = rw e
+first_text-front (zero ∷ s) n e = rw e
+first_text-front (suc b ∷ s) n e = rw e (ap (λ (t : List ℕ). suc b ∷ t) (first_text-front s (length (first_text s)) refl))

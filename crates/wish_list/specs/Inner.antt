@@ -1,0 +1,2 @@
+-- Definitions that only contracts inside the crate cite.
+pub mod Earlier
