@@ -1,7 +1,7 @@
 -- What a measured table gives its writer. Assumes nothing.
-use Rattle.std.specs.Prelude.{Ok, IsTrue, is_ok}
-use Rattle.std.specs.Prelude.{ℕ, suc, ◌+◌, ◌*◌, ◌≤◌, ◌≡◌, true, List, [], ◌∷◌, length}
-use Rattle.std.proofs.Common.{sym, ap, ◌∙◌, arith}
+use Rattle.std.specs.Prelude.{IsTrue, is_ok}
+use Rattle.std.specs.Prelude.{ℕ, ◌+◌, ◌*◌, ◌≤◌, ◌≡◌, List, [], ◌∷◌, length}
+use Rattle.std.proofs.Common.{sym, ◌∙◌, arith}
 use Rattle.tree.specs.Table.{encode, limits}
 use Rattle.tree.proofs.Laws.RoundTrip.{Within, within-limits}
 use Rattle.wish_list.specs.Paths.{paths_in}
@@ -18,8 +18,8 @@ paths-most before [] = omega arith
 paths-most before (path ∷ paths) = omega (arith, paths-most path paths)
 
 module _
-  (paths sizes : List ℕ) (count size : ℕ)
-  (counted : count ≡ length (tree_of paths sizes [])) (measured : size ≡ length (encode (tree_of paths sizes []))) (within : IsTrue (is_ok (limits (tree_of paths sizes []) (4 * (count + 2))))) where
+    (paths sizes : List ℕ) (count size : ℕ)
+    (counted : count ≡ length (tree_of paths sizes [])) (measured : size ≡ length (encode (tree_of paths sizes []))) (within : IsTrue (is_ok (limits (tree_of paths sizes []) (4 * (count + 2))))) where
   small : Within (tree_of paths sizes []) (4 * (count + 2))
   small = within-limits (tree_of paths sizes []) (4 * (count + 2)) (ok-is (limits (tree_of paths sizes []) (4 * (count + 2))) within)
 

@@ -1,14 +1,13 @@
 -- The paths before a place, and those behind it. Assumes nothing.
-use Rattle.std.specs.Prelude.{ℕ, zero, suc, ◌+◌, ◌-◌, ◌*◌, ◌<◌, ◌≤◌, ◌≡◌, refl, ◌⊎◌, Bool, true, false, cond, ◌&&◌, List, [], ◌∷◌, ◌++◌, length, take, drop, get_or}
+use Rattle.std.specs.Prelude.{ℕ, suc, ◌+◌, ◌-◌, ◌<◌, ◌≤◌, ◌≡◌, refl, Bool, true, false, cond, List, [], ◌∷◌, ◌++◌, length, take, drop, get_or}
 use Rattle.std.specs.List.{list_all}
 use Rattle.std.proofs.Common.{sym, ap, ◌∙◌, ⊎_elim, arith, eqb-true, leb-true, take-append-drop, get_or-take, length-take-le, length-append, append_assoc, take_at}
-use Rattle.std.proofs.lemmas.List.{drop_all}
 use Rattle.endian.specs.Bytes.{span}
-use Rattle.endian.specs.Laws.Stored.{length-span, get_d-span}
+use Rattle.endian.specs.Laws.Stored.{get_d-span}
 use Rattle.refusal.specs.Laws.Tests.{is_false, lt-or-le, and_left, and_right}
 use Rattle.wish_list.specs.Paths.{is_zero, paths_in, onto_path}
 use Rattle.new_table.specs.Inner.Cuts.{IsCut, IsPathBefore}
-use Rattle.new_table.specs.Inner.Steps.{slashes, own_part, entries_behind, texts_behind, is_shallow_path}
+use Rattle.new_table.specs.Inner.Steps.{slashes, entries_behind, texts_behind, is_shallow_path}
 use Rattle.new_table.proofs.Drafting.{cut-part}
 
 -- ---- the paths in two parts of bytes

@@ -1,5 +1,5 @@
 -- The loop that writes a draft, from the last path to the first. Assumes nothing.
-use Rattle.std.specs.Prelude.{ℕ, zero, suc, ◌+◌, ◌-◌, ◌*◌, ◌^◌, ◌<◌, ◌≤◌, ◌≡◌, refl, Bool, true, false, List, [], ◌∷◌, ◌++◌, length, take, drop, get_or}
+use Rattle.std.specs.Prelude.{ℕ, zero, suc, ◌+◌, ◌-◌, ◌*◌, ◌^◌, ◌<◌, ◌≤◌, ◌≡◌, refl, true, List, [], ◌∷◌, ◌++◌, length, take, drop, get_or}
 use Rattle.std.specs.List.{list_all}
 use Rattle.std.proofs.Common.{sym, ap, ◌∙◌, ⊎_elim, arith, add-zero, get_or-drop, length-drop, length-append}
 use Rattle.std.proofs.lemmas.List.{drop_all}
@@ -8,8 +8,8 @@ use Rattle.refusal.specs.Laws.Tests.{lt-or-le}
 use Rattle.tree.specs.Table.{Node, directory, node_bytes, texts_of}
 use Rattle.wish_list.specs.Paths.{paths_in, names_of}
 use Rattle.wish_list.specs.Tree.{Wish, wishes, common, added, below, entries_from, entries_with, tree_from, tree}
-use Rattle.wish_list.proofs.Laws.Below.{common-less, below-in, below-out, below-nil, length-entries_with, length-tree_from, length-tree}
-use Rattle.wish_list.proofs.Laws.NameTexts.{texts_of-append, texts_of-entries_from, length-name_texts, name_texts_total, texts-tree_from, texts_total}
+use Rattle.wish_list.proofs.Laws.Below.{common-less, below-in, below-out, length-entries_with, length-tree_from, length-tree}
+use Rattle.wish_list.proofs.Laws.NameTexts.{texts_of-append, texts_of-entries_from, length-name_texts, name_texts_total, texts-tree_from}
 use Rattle.endian.specs.Bytes.{put}
 use Rattle.new_table.specs.Trees.{tree_of}
 use Rattle.new_table.specs.Inner.Cuts.{IsPathBefore}
@@ -83,8 +83,8 @@ path_entries-from ends next k n (name ∷ inner ∷ names) w ws e l f =
     rw (h, path_entries-from ends next (suc k) (suc n) (inner ∷ names) w ws (omega arith) (omega arith) (λ j a b. f j (omega arith) b)) refl
 
 module _
-  (paths sizes offsets : List ℕ) (count size i end : ℕ) (path ends : List ℕ) (entry text : ℕ) (bytes : List ℕ)
-  (f : Fitting paths count size) (g : Going paths sizes offsets count size i end path ends entry text bytes) (some : 0 < i) where
+    (paths sizes offsets : List ℕ) (count size i end : ℕ) (path ends : List ℕ) (entry text : ℕ) (bytes : List ℕ)
+    (f : Fitting paths count size) (g : Going paths sizes offsets count size i end path ends entry text bytes) (some : 0 < i) where
   pub end-some : 0 < end
   end-some =
       ⊎_elim (λ (h : 0 < end). h)

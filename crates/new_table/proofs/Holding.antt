@@ -1,13 +1,12 @@
 -- The entries that are written so far, and one more before them. Assumes nothing.
-use Rattle.std.specs.Prelude.{ℕ, zero, suc, ◌+◌, ◌-◌, ◌*◌, ◌<◌, ◌≤◌, ◌≡◌, refl, Bool, true, false, cond, List, [], ◌∷◌, ◌++◌, length, take, drop, get_or}
+use Rattle.std.specs.Prelude.{ℕ, zero, suc, ◌+◌, ◌-◌, ◌*◌, ◌≤◌, ◌≡◌, refl, List, [], ◌∷◌, ◌++◌, length, take, drop}
 use Rattle.std.proofs.Common.{sym, ap, ◌∙◌, inl, inr, arith, le-ltb, drop-drop, length-append, append_assoc}
 use Rattle.std.proofs.Math.Seq.{take-add}
 use Rattle.endian.specs.Bytes.{put, span}
 use Rattle.endian.specs.Laws.Stored.{length-put, span-put, span_ext, put-outside}
-use Rattle.tree.specs.Table.{Node, file, directory, name_of, empty_root, parent_below, parent_of, node_bytes, entries_bytes, texts_of}
-use Rattle.tree.proofs.Laws.WrittenEntries.{length-node_bytes, length-entries_bytes}
+use Rattle.tree.specs.Table.{Node, name_of, parent_below, parent_of, node_bytes, entries_bytes, texts_of}
+use Rattle.tree.proofs.Laws.WrittenEntries.{length-node_bytes}
 use Rattle.new_table.specs.Inner.Drafts.{entry_put, entries_put, draft_bytes}
-use Rattle.new_table.proofs.Drafting.{length-entry_put}
 
 -- ---- a part that is not written over
 

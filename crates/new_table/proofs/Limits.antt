@@ -1,21 +1,20 @@
 -- The limits of the tree of some paths, counted in their bytes. Assumes nothing.
 use Rattle.std.specs.Prelude.{Ok, Err}
-use Rattle.std.specs.Prelude.{ℕ, zero, suc, ◌+◌, ◌-◌, ◌*◌, ◌<◌, ◌≤◌, ◌≡◌, refl, Bool, true, false, cond, not, ◌&&◌, List, [], ◌∷◌, ◌++◌, length, drop, get_or, leb, ltb}
-use Rattle.std.specs.List.{list_all, slice_split, onto_first}
-use Rattle.std.proofs.Common.{sym, ap, ◌∙◌, arith, leb-true, leb-false, le-leb, le-ltb, lt-ltb}
-use Rattle.std.proofs.lemmas.Bool.{lt-leb}
+use Rattle.std.specs.Prelude.{ℕ, suc, ◌+◌, ◌*◌, ◌<◌, ◌≤◌, ◌≡◌, refl, Bool, true, false, cond, not, ◌&&◌, List, [], ◌∷◌, length, drop, get_or, leb, ltb}
+use Rattle.std.specs.List.{list_all, onto_first}
+use Rattle.std.proofs.Common.{sym, ◌∙◌, arith, leb-true, leb-false, le-leb, le-ltb, lt-ltb}
 use mathlib.Core.List.{tail}
 use Rattle.refusal.specs.declared.Refusal.TheVariants.{LimitOrMemory}
 use Rattle.refusal.specs.Refusal.{Verdict, refuse}
 use Rattle.refusal.specs.Laws.Tests.{and_left, and_right, same_test}
 use Rattle.tree.specs.Table.{texts_of, encode, is_shallow, limits}
 use Rattle.wish_list.specs.Paths.{is_slash, names_of}
-use Rattle.wish_list.specs.Tree.{Wish, wishes, common, added, below, tree}
+use Rattle.wish_list.specs.Tree.{Wish, wishes, common, below, tree}
 use Rattle.wish_list.proofs.Laws.Below.{below-zero, below-nil, length-tree}
 use Rattle.wish_list.proofs.Laws.Shallow as shallow
 use Rattle.wish_list.proofs.Laws.NameTexts.{name_texts_total, texts_total, texts-tree, length-encode_tree, wishes-named}
 use Rattle.new_table.specs.Inner.Steps.{slashes, own_part, entries_behind, texts_behind, is_shallow_path, is_small}
-use Rattle.new_table.proofs.Names.{length-names_of, Shares, shares, added-bytes}
+use Rattle.new_table.proofs.Names.{length-names_of, shares, added-bytes}
 
 -- ---- entries
 

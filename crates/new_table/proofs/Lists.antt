@@ -1,15 +1,11 @@
 -- What the tests of a wish list give. Assumes nothing.
 use Rattle.std.specs.Prelude.{Ok, Err, IsTrue, is_ok}
-use Rattle.std.specs.Prelude.{ℕ, zero, suc, ◌-◌, ◌<◌, ◌≡◌, refl, Bool, true, false, not, ◌&&◌, ◌||◌, ◌==◌, List, [], ◌∷◌, length, get_or, ltb}
-use Rattle.std.specs.List.{count_by}
+use Rattle.std.specs.Prelude.{ℕ, suc, ◌-◌, ◌≡◌, refl, Bool, true, false, not, ◌&&◌, List, [], ◌∷◌, length, get_or, ltb}
 use Rattle.std.proofs.Common.{arith, lt-ltb, eqb-true}
 use Rattle.std.proofs.lemmas.Bool.{false≢true}
-use Rattle.refusal.specs.Laws.Tests.{or-false, is_false}
-use Rattle.refusal.specs.Laws.Chains.{first-passed, refuse-passed}
-use Rattle.refusal.specs.Refusal.{Verdict, refuse, first}
-use Rattle.refusal.specs.declared.Refusal.TheVariants.{MissingNullTerminator}
+use Rattle.refusal.specs.Refusal.{Verdict}
 use Rattle.wish_list.proofs.Laws.AcceptedPaths.{list-accepted}
-use Rattle.wish_list.specs.Paths.{is_zero, has_rest, paths_in, ends_verdict, paths_verdict, list_verdict}
+use Rattle.wish_list.specs.Paths.{is_zero, has_rest, paths_in, list_verdict}
 
 pub ok-is : (v : Verdict) → IsTrue (is_ok v) → v ≡ Ok tt
 ok-is (Ok tt) h = refl

@@ -1,10 +1,10 @@
 -- The loop that measures: what is measured and what is left make the whole. Assumes nothing.
-use Rattle.std.specs.Prelude.{ℕ, zero, suc, ◌+◌, ◌-◌, ◌*◌, ◌<◌, ◌≤◌, ◌≡◌, refl, Bool, true, false, cond, ◌&&◌, List, [], ◌∷◌, ◌++◌, length, take, drop, get_or, leb}
+use Rattle.std.specs.Prelude.{ℕ, zero, suc, ◌+◌, ◌-◌, ◌*◌, ◌<◌, ◌≤◌, ◌≡◌, refl, true, false, List, [], ◌∷◌, length, take, drop, get_or}
 use Rattle.std.specs.List.{list_all}
-use Rattle.std.proofs.Common.{sym, ap, ◌∙◌, arith, drop-drop, length-drop, leb-true, leb-false, le-leb, eqb-true}
+use Rattle.std.proofs.Common.{sym, ap, ◌∙◌, arith, drop-drop, length-drop, le-leb, eqb-true}
 use Rattle.std.proofs.lemmas.Bool.{lt-leb}
 use Rattle.std.proofs.lemmas.List.{drop_all, take_rest}
-use Rattle.refusal.specs.Laws.Tests.{and_left, and_right, and_both, and-false, is_false}
+use Rattle.refusal.specs.Laws.Tests.{and-false, is_false}
 use Rattle.tree.specs.Table.{first_text}
 use Rattle.tree.proofs.Laws.Texts.{name-ends}
 use Rattle.tree.specs.Table.{name_at}

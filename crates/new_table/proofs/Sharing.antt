@@ -1,8 +1,8 @@
 -- The loop that compares two paths. Assumes nothing.
-use Rattle.std.specs.Prelude.{ℕ, zero, suc, ◌+◌, ◌<◌, ◌≤◌, ◌≡◌, ◌≢◌, refl, Bool, true, false, cond, List, [], ◌∷◌, length, drop, get_or, eqb}
-use Rattle.std.proofs.Common.{arith, drop-cons, eq-eqb, eqb-true, ⊎_elim}
+use Rattle.std.specs.Prelude.{ℕ, zero, suc, ◌+◌, ◌<◌, ◌≤◌, ◌≡◌, refl, true, false, cond, List, [], ◌∷◌, length, drop, get_or, eqb}
+use Rattle.std.proofs.Common.{arith, drop-cons, eq-eqb, eqb-true}
 use Rattle.std.proofs.lemmas.List.{drop_all}
-use Rattle.refusal.specs.Laws.Tests.{is_false, lt-or-le}
+use Rattle.refusal.specs.Laws.Tests.{is_false}
 use Rattle.wish_list.specs.Paths.{is_slash}
 use Rattle.new_table.specs.Inner.Steps.{shared_from, shared_bytes}
 

@@ -1,9 +1,8 @@
 -- A draft is a valid table, and reads as the tree. Assumes nothing.
 use Rattle.std.specs.Prelude.{Ok, IsTrue, is_ok}
-use Rattle.std.specs.Prelude.{ℕ, suc, ◌+◌, ◌*◌, ◌^◌, ◌<◌, ◌≤◌, ◌≡◌, refl, true, List, [], ◌∷◌, length}
-use Rattle.std.proofs.Common.{sym, ap, ◌∙◌, arith}
-use mathlib.Core.List.{tail}
-use Rattle.tree.specs.Table.{Node, texts_of, encode, limits, check, count, nodes_of}
+use Rattle.std.specs.Prelude.{ℕ, ◌≡◌, refl, List, [], ◌∷◌, length}
+use Rattle.std.proofs.Common.{◌∙◌, arith}
+use Rattle.tree.specs.Table.{Node, encode, limits, check, count, nodes_of}
 use Rattle.tree.specs.Inner.WellFormed.{IsWellFormed}
 use Rattle.tree.proofs.Laws.RoundTrip.{Within, within-limits, encode_with, nodes_of-encode_with, check-encode_with}
 use Rattle.table_writing.specs.Inner.Valid.{IsValid}
@@ -21,8 +20,8 @@ draft-encode_with [] = refl
 draft-encode_with (root ∷ xs) = refl
 
 module _
-  (paths sizes offsets : List ℕ) (accepted : IsTrue (is_ok (list_verdict paths (length sizes)))) (words : ℕ) (within : IsTrue (is_ok (limits (tree_of paths sizes []) words))) (all_sizes : AllWords sizes)
-  (all_offsets : AllWords offsets) (draft : List ℕ) (written : draft ≡ draft_bytes (tree_of paths sizes offsets)) where
+    (paths sizes offsets : List ℕ) (accepted : IsTrue (is_ok (list_verdict paths (length sizes)))) (words : ℕ) (within : IsTrue (is_ok (limits (tree_of paths sizes []) words))) (all_sizes : AllWords sizes)
+    (all_offsets : AllWords offsets) (draft : List ℕ) (written : draft ≡ draft_bytes (tree_of paths sizes offsets)) where
   abbrev nodes : List Node
   nodes = tree_of paths sizes offsets
 

@@ -1,5 +1,5 @@
-// A table that is written from its last entry to its first: there the end of each directory is known. Its
-// directories store the parent 0.
+// A table that is written from its last entry to its first, where it is known where each directory ends.
+// Its directories store the parent 0.
 ghost use Rattle.std.specs.Prelude.{◌≡◌, ℕ, suc, ◌+◌, ◌-◌, ◌<◌, ◌≤◌, [], ◌∷◌, ◌++◌, length, take, drop, slice_index};
 ghost use Rattle.endian.specs.Bytes.{put};
 ghost use Rattle.tree.specs.Table.{file, directory};
@@ -18,7 +18,7 @@ pub struct Place {
     pub text: usize,
 }
 
-/// Lets directories with `from` to `to` directories around them, the root with them, end before entry `next`.
+/// Lets the directories that are `from` to `to` deep end before entry `next`; `ends` is by their depth.
 pub fn close(ends: &mut [u32], from: usize, to: usize, next: u32)
     requires { to < length ends.old }
     ensures closed { (j : ℕ) → from ≤ j → j ≤ to → slice_index ends.new j ≡ next }
@@ -29,16 +29,25 @@ pub fn close(ends: &mut [u32], from: usize, to: usize, next: u32)
     }
 }
 
-// Writes a name and its zero byte.
-fn write_text(bytes: &mut [u8], at: usize, name: &[u8])
-    requires { at + length name.now + 1 ≤ length bytes.old }
-    ensures { bytes.new ≡ put bytes.old at (name.now ++ (0 ∷ [])) }
-{
-    endian::copy(name, 0, bytes, at, name.len());
-    endian::write_u8(bytes, at + name.len(), 0);
-}
-
 impl Place {
+    // Writes the name of an entry before it, with its zero byte, and returns the place of that entry.
+    fn write_name(self, bytes: &mut [u8], name: &[u8]) -> Place
+        requires entry { 0 < self.entry }
+        requires text { length name.now + 1 ≤ self.text }
+        requires within { self.text ≤ length bytes.old }
+        ensures entry { result.entry + 1 ≡ self.entry }
+        ensures text { result.text + (length name.now + 1) ≡ self.text }
+        ensures bytes { bytes.new ≡ put bytes.old result.text (name.now ++ (0 ∷ [])) }
+    {
+        let text = self.text - (name.len() + 1);
+        endian::copy(name, 0, bytes, text, name.len());
+        endian::write_u8(bytes, text + name.len(), 0);
+        Place {
+            entry: self.entry - 1,
+            text,
+        }
+    }
+
     /// Writes a file before it; the names start at `texts`.
     pub fn write_file(self, bytes: &mut [u8], texts: usize, name: &[u8], entry: FileEntry) -> Place
         requires { HasRoom bytes.old texts self.entry self.text 1 (length name.now + 1) }
@@ -47,11 +56,7 @@ impl Place {
         ensures bytes { let x = file name.now entry.offset entry.size in
             bytes.new ≡ entry_put texts result.entry result.text x bytes.old }
     {
-        let place = Place {
-            entry: self.entry - 1,
-            text: self.text - (name.len() + 1),
-        };
-        write_text(bytes, place.text, name);
+        let place = self.write_name(bytes, name);
         let record = Record {
             kind: Kind::File,
             name: (place.text - texts) as u32,
@@ -70,11 +75,7 @@ impl Place {
         ensures bytes { let x = directory name.now next in
             bytes.new ≡ entry_put texts result.entry result.text x bytes.old }
     {
-        let place = Place {
-            entry: self.entry - 1,
-            text: self.text - (name.len() + 1),
-        };
-        write_text(bytes, place.text, name);
+        let place = self.write_name(bytes, name);
         let record = Record {
             kind: Kind::Directory,
             name: (place.text - texts) as u32,
@@ -85,8 +86,8 @@ impl Place {
         place
     }
 
-    /// Writes the entries of a path before it, the file first, but for the directories in its first `shared`
-    /// bytes; a directory with n around it, the root with them, ends before entry `ends[n]`.
+    /// Writes the entries of a path before it, the file first, but for the directories in its first
+    /// `shared` bytes. A directory that is n deep ends before entry `ends[n]`.
     pub fn write_path(
         self,
         bytes: &mut [u8],

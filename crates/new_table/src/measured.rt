@@ -30,14 +30,15 @@ pub struct NewTable<'a> {
     /// How many bytes its table is.
     pub ghost measured: { size ≡ length (encode (tree_of paths.now sizes.now [])) },
     /// The tree is within the limits, with as many words as it needs.
-    pub ghost within: { IsTrue (is_ok (limits (tree_of paths.now sizes.now []) (4 * (entries + 2)))) },
+    pub ghost within: { let nodes = tree_of paths.now sizes.now [] in
+        IsTrue (is_ok (limits nodes (4 * (entries + 2)))) },
 }
 
-// Does nothing: that each number fits 4 bytes is known where the slice is a parameter.
+// Does nothing: that each number fits 4 bytes the proof knows of a slice that is a parameter, and not of a
+// field.
 fn bound(numbers: &[u32])
     ensures { (i : ℕ) → slice_index numbers.now i < 2 ^ 32 }
-{
-}
+{}
 
 impl<'a> NewTable<'a> {
     /// Measures the table of a wish list; 9 if its tree passes a limit, or if `words`, how many working
@@ -111,7 +112,12 @@ impl<'a> NewTable<'a> {
             };
             place = place.write_path(bytes, texts, path, shared, entry, &ends);
             let depth = path::slashes(&path[..shared]);
-            draft::close(&mut ends, depth + 1, path::slashes(before), place.entry as u32);
+            draft::close(
+                &mut ends,
+                depth + 1,
+                path::slashes(before),
+                place.entry as u32,
+            );
             path = before;
         }
         let root = Record {

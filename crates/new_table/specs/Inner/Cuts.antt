@@ -1,5 +1,5 @@
 -- Parts of bytes, found from their end. Assumes nothing: these are definitions.
-use Rattle.std.specs.Prelude.{ℕ, suc, ◌+◌, ◌-◌, ◌<◌, ◌≤◌, ◌≡◌, ◌≢◌, List, length, take, drop, slice_index}
+use Rattle.std.specs.Prelude.{ℕ, suc, ◌-◌, ◌<◌, ◌≤◌, ◌≡◌, ◌≢◌, List, length, slice_index}
 use Rattle.endian.specs.Bytes.{span}
 
 -- from `start` up to `end` there is no byte b, and just before it there is one, unless it is `from`

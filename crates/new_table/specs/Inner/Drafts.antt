@@ -12,7 +12,7 @@ unfoldable pub entries_put : ℕ → ℕ → ℕ → List Node → List ℕ → 
 entries_put texts k text [] bytes = bytes
 entries_put texts k text (x ∷ xs) bytes = entry_put texts k text x (entries_put texts (suc k) (text + suc (length (name_of x))) xs bytes)
 
--- the entries of a file from its n-th name on, where its j-th directory ends before entry `ends j`
+-- the entries of a file from its n-th name on, where a directory that is j deep ends before entry j of `ends`
 unfoldable pub path_entries : List ℕ → ℕ → List (List ℕ) → ℕ → ℕ → List Node
 path_entries ends n [] offset size = []
 path_entries ends n (name ∷ []) offset size = file name offset size ∷ []

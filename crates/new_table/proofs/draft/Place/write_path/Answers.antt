@@ -1,6 +1,6 @@
 -- `new_table::draft::Place::write_path` meets its contract: the file, and then each directory, from the inner to the outer.
-use Rattle.std.proofs.Common.{◌≡◌, ◌+◌, ◌-◌, ◌<◌, length, arith, refl, ◌∙◌}
-use Rattle.new_table.proofs.Drafting.{drafted-file, drafted-directory, some-directory, room-more, drafted-all}
+use Rattle.std.proofs.Common.{◌-◌, ◌<◌, arith, refl, ◌∙◌}
+use Rattle.new_table.proofs.Drafting.{drafted-file, drafted-directory, some-directory, room-more}
 use Rattle.new_table.proofs.draft.Place.write_path.Goals as goal
 
 pub loop-start-init : goal.loop-start-init

@@ -1,7 +1,6 @@
 -- `new_table::measured::NewTable::measure` meets its contract: all limits have one cause.
-use Rattle.std.proofs.Common.{◌≡◌, ◌+◌, ◌*◌, ◌<◌, ◌≤◌, suc, arith, length, [], true, sym, ◌∙◌}
+use Rattle.std.proofs.Common.{◌+◌, ◌*◌, arith, length, [], sym, ◌∙◌}
 use Rattle.wish_list.specs.Paths.{paths_in}
-use Rattle.new_table.specs.Inner.Steps.{entries_behind, texts_behind, is_small}
 use Rattle.new_table.specs.Inner.Sizes.{IsSizeOf}
 use Rattle.new_table.proofs.Lists.{ended, is-ok}
 use Rattle.new_table.proofs.Limits.{small-entries, small-texts, tree-entries, tree-size, limits-small, limits-few_words, limits-large}
@@ -50,7 +49,7 @@ returns-in_default-clause-err c =
     let list = c.args.list.now in
     let ps = paths_in list.paths.now in
     elim c.in_default.branch [
-      in_default-via-in-Some+else-size-words w ↦
+      | in_default-via-in-Some+else-size-words w ↦
           let s : IsSizeOf w.in-Some.size ps = w.in-Some.ensures.some in
           limits-few_words ps list.sizes.now [] c.args.words (omega (arith, s.entries, w.if-size-words.false))
       | in_default-via-in_default w ↦ limits-large ps list.sizes.now [] c.args.words w.in_default.ensures.none

@@ -1,11 +1,11 @@
 -- `new_table::measured::NewTable::write_draft` meets its contract: path by path, and then the root.
-use Rattle.std.proofs.Common.{◌≡◌, ◌+◌, ◌-◌, ◌*◌, ◌<◌, ◌≤◌, suc, length, take, arith, refl, sym, ap, ◌∙◌}
+use Rattle.std.proofs.Common.{◌≡◌, ◌+◌, ◌-◌, ◌*◌, ◌≤◌, length, take, arith, refl, sym, ◌∙◌}
 use Rattle.std.proofs.lemmas.List.{get_or-replicate}
 use Rattle.new_table.specs.Inner.Steps.{slashes}
 use Rattle.new_table.proofs.Lists.{ended, counted}
 use Rattle.new_table.proofs.Fitted.{few, few_paths, fitting}
 use Rattle.new_table.proofs.Fronts.{at-end}
-use Rattle.new_table.proofs.Going.{Fitting, Going, going-none, going-room, going-more, going-all, shallow-path, shallow-before, entry-most, path-fits}
+use Rattle.new_table.proofs.Going.{Going, going-none, going-room, going-more, going-all, shallow-path, shallow-before, entry-most}
 use Rattle.new_table.proofs.measured.NewTable.write_draft.Goals as goal
 
 pub overflow_mul-texts : goal.overflow_mul-texts
@@ -69,7 +69,7 @@ write_path-place-requires-clause-room c =
     let s = c.args.self.now in
     let f = fitting s.paths.now s.sizes.now s.entries s.size s.counted s.measured s.within in
     going-room s.paths.now s.sizes.now c.args.offsets.now s.entries s.size c.loop-i.i c.loop-i.end c.loop-i.path.now c.loop-i.ends c.loop-i.place.entry c.loop-i.place.text c.loop-i.bytes f c.loop-i.invariant c.loop-i-test.true
-    (c.loop-i.end - (length c.loop-i.path.now + 1)) c.path_before-before.result.now (omega arith) c.path_before-before.ensures c.shared_bytes-shared.result c.shared_bytes-shared.ensures.value
+    (c.loop-i.end - (length c.loop-i.path.now + 1)) c.path_before-before.result.now (omega arith) c.path_before-before.ensures _ (omega (arith, c.shared_bytes-shared.ensures.value))
 
 pub overflow_cast-place : goal.overflow_cast-place
 overflow_cast-place c =

@@ -1,7 +1,6 @@
 -- `new_table::size::Size::of` meets its contract: each path adds its own part, and the first limit that is passed ends it.
-use Rattle.std.proofs.Common.{◌≡◌, ◌+◌, ◌-◌, ◌<◌, ◌≤◌, suc, length, take, drop, arith, ap, ◌∙◌}
+use Rattle.std.proofs.Common.{◌≡◌, ◌-◌, length, take, drop, arith, ap, ◌∙◌}
 use Rattle.new_table.specs.Inner.Steps.{slashes, own_part}
-use Rattle.new_table.specs.Inner.Sizes.{IsSizeOf}
 use Rattle.new_table.proofs.Measuring.{own-is, text-ends, too_deep, too_many, too_long, measured-more, measured-all}
 use Rattle.new_table.proofs.size.Size.of.Goals as goal
 use Rattle.new_table.proofs.size.Size.of.Goals.{then-entries-gt-ENTRIES_LIMIT-via-then-entries-gt-ENTRIES_LIMIT, then-entries-gt-ENTRIES_LIMIT-via-else-entries-gt-ENTRIES_LIMIT+then-texts-gt-TEXTS_LIMIT}
@@ -22,7 +21,7 @@ returns-then-entries-gt-ENTRIES_LIMIT-clause-none c =
     let n : c.slashes-in-loop-at.result ≡ slashes (own_part q p) = c.slashes-in-loop-at.ensures ∙ ap slashes o in
     let l : length (take (length p - c.shared_bytes.result) (drop c.shared_bytes.result p)) ≡ length (own_part q p) = ap length o in
     elim c.then-entries-gt-ENTRIES_LIMIT.branch [
-      then-entries-gt-ENTRIES_LIMIT-via-then-entries-gt-ENTRIES_LIMIT w ↦
+      | then-entries-gt-ENTRIES_LIMIT-via-then-entries-gt-ENTRIES_LIMIT w ↦
           too_many c.args.paths.now q p c.loop-at.at c.loop-at.entries c.loop-at.texts c.loop-at.invariant c.loop-at-test.true c.requires.ended c.path_at-path.ensures (omega (arith, w.if-entries-gt-ENTRIES_LIMIT.true))
       | then-entries-gt-ENTRIES_LIMIT-via-else-entries-gt-ENTRIES_LIMIT+then-texts-gt-TEXTS_LIMIT w ↦
           too_long c.args.paths.now q p c.loop-at.at c.loop-at.entries c.loop-at.texts c.loop-at.invariant c.loop-at-test.true c.requires.ended c.path_at-path.ensures (omega (arith, w.if-texts-gt-TEXTS_LIMIT.true))
