@@ -1,11 +1,12 @@
 -- What a list that is granted has for the writing: room for table, offsets and image; and the image in its parts. Assumes nothing.
-use Rattle.std.specs.Prelude.{Ok, ℕ, ◌+◌, ◌-◌, ◌≤◌, ◌≡◌, refl, List, [], ◌++◌, length, take, drop, replicate}
+use Rattle.std.specs.Prelude.{Ok, Err, ℕ, ◌+◌, ◌-◌, ◌≤◌, ◌≡◌, refl, List, [], ◌++◌, length, take, drop, replicate}
 use Rattle.std.proofs.Common.{arith, ap, ◌∙◌, length-drop}
 use Rattle.std.proofs.lemmas.List.{take_all, drop-drop, append-nil}
 use Rattle.std.proofs.Math.ListN.{drop_of_length-le}
 use Rattle.std.proofs.Math.Seq.{take-append_seam}
 use borrow.Rule.Slice.PartMut.{put_mid}
 use Rattle.endian.specs.Bytes.{put}
+use Rattle.refusal.specs.declared.Refusal.{Refusal}
 use Rattle.header.specs.Header.{put_header}
 use Rattle.tree.specs.Table.{encode}
 use Rattle.wish_list.specs.Paths.{paths_in}
@@ -13,8 +14,8 @@ use Rattle.wish_list.proofs.Laws.NameTexts.{encode-length-placed}
 use Rattle.placement.specs.Placement.{least_end, offsets_of}
 use Rattle.placement.proofs.Laws.Exactly.{is_placeable-least_end}
 use Rattle.placement.proofs.Laws.Offsets.{length-offsets_of}
-use Rattle.master.specs.Master.{Master, nodes_at, nodes_of_master, table_size, first_free, header_of_master, master_verdict, written_master}
-use Rattle.master.proofs.Laws.Opens.{Passed, passed, placeable, placed}
+use Rattle.master.specs.Master.{Master, nodes_at, nodes_of_master, table_size, first_free, header_of_master, master_verdict, written_master, image_with_master}
+use Rattle.master.proofs.Laws.Opens.{passed, placeable, placed}
 use Rattle.master.proofs.Judging.{Few, few}
 
 pub record Ready (m : Master) (room words bytes : ℕ) : Type 0 where
@@ -50,11 +51,20 @@ pub offsets-front : (m : Master) (rest : List ℕ) → take (length m.sizes) (of
 offsets-front m rest = rw (← length-offsets_of (first_free m) m.sizes) (take-append_seam (offsets_of (first_free m) m.sizes) rest)
 
 -- the table with these offsets has the size that was measured
-pub table-sized : (m : Master) → length (encode (nodes_of_master m)) ≡ table_size m
-unfolding nodes_of_master
+pub table-sized : (m : Master) → length (encode (nodes_at m (offsets_of (first_free m) m.sizes))) ≡ table_size m
 table-sized m = encode-length-placed (paths_in m.paths) m.sizes (offsets_of (first_free m) m.sizes) m.sizes []
 
 -- the image in its parts
 pub in-parts : (m : Master) (image : List ℕ) → put (put_header (header_of_master m) (put image 0 (replicate m.disc_end 0))) 0x440 (encode (nodes_at m (offsets_of (first_free m) m.sizes))) ≡ written_master m image
 unfolding written_master nodes_of_master
 in-parts m image = refl
+
+-- ---- the image afterwards
+
+pub refused-image : (m : Master) (image : List ℕ) (words bytes : ℕ) (c : Refusal) → master_verdict m (length image) words bytes ≡ Err c → image ≡ image_with_master m image words bytes
+unfolding image_with_master
+refused-image m image words bytes c e = rw e
+
+pub granted-image : (m : Master) (image : List ℕ) (words bytes : ℕ) → master_verdict m (length image) words bytes ≡ Ok tt → written_master m image ≡ image_with_master m image words bytes
+unfolding image_with_master
+granted-image m image words bytes e = rw e

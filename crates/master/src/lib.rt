@@ -104,7 +104,12 @@ fn write_granted(
 /// earlier file as a directory; 9 for the limits of the new tree, for too few words (4 for each entry, and 8) or
 /// working bytes (the table's size), and for a buffer that is shorter than the disc end; 21 exactly where header,
 /// table and files, each on a multiple of 0x8000, fit in no way. Words and bytes are zero afterwards.
-pub fn write_master(image: &mut [u8], master: Master<'_>, words: &mut [u32], bytes: &mut [u8]) -> Verdict
+pub fn write_master(
+    image: &mut [u8],
+    master: Master<'_>,
+    words: &mut [u32],
+    bytes: &mut [u8],
+) -> Verdict
     ensures answer { let asked = master_of master.entry in
         result ≡ master_verdict asked (length image.old) (length words.old) (length bytes.old) }
     ensures image_after { let asked = master_of master.entry in

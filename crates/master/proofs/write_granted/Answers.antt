@@ -5,7 +5,7 @@ use Rattle.endian.specs.Bytes.{put}
 use Rattle.header.specs.Header.{put_header}
 use Rattle.tree.specs.Table.{encode}
 use Rattle.placement.specs.Placement.{offsets_of}
-use Rattle.master.specs.Master.{Master, nodes_at, nodes_of_master, table_size, first_free, header_of_master}
+use Rattle.master.specs.Master.{Master, nodes_at, table_size, first_free, header_of_master}
 use Rattle.master.specs.Asked.{wished}
 use Rattle.master.proofs.Writing.{Ready, ready, tail-put, offsets-front, table-sized, in-parts}
 use Rattle.master.proofs.write_granted.Goals as goal
@@ -62,5 +62,5 @@ returns-clause-image_after c =
     let size : c.size-size.result ≡ table_size m = c.size-size.ensures in
     let offsets : take (length m.sizes) c.place.new.offsets ≡ offsets_of (first_free m) m.sizes = rw (c.place.ensures, size) (offsets-front m _) in
     let blank : c.write_blank.new.image ≡ put_header (header_of_master m) (put c.args.image.now 0 (replicate m.disc_end 0)) = rw size at c.write_blank.ensures.image_after in
-    let fits : 0x440 + length (encode (nodes_of_master m)) ≤ length c.write_blank.new.image = omega (arith, table-sized m, r.table, r.room_fits) in
-    rw (c.write.ensures, offsets) (tail-put c.write_blank.new.image 0x440 (encode (nodes_at m (offsets_of (first_free m) m.sizes))) ? ∙ rw blank (in-parts m c.args.image.now))
+    let fits : 0x440 + length (encode (nodes_at m (offsets_of (first_free m) m.sizes))) ≤ length c.write_blank.new.image = omega (arith, table-sized m, r.table, r.room_fits) in
+    rw (c.write.ensures, offsets) (tail-put c.write_blank.new.image 0x440 (encode (nodes_at m (offsets_of (first_free m) m.sizes))) fits ∙ rw blank (in-parts m c.args.image.now))

@@ -27,8 +27,8 @@ returns-then-bytes-size-clause-refused c =
     let limited : limits (nodes_at m []) c.args.words ≡ Ok tt = rw (c.in_ok-list.ensures.paths, c.in_ok-list.ensures.sizes) at c.in_ok-table.ensures.ok in
     let size : c.size-size.result ≡ table_size m = rw (c.in_ok-table.ensures.list, c.in_ok-table.ensures.sizes, c.in_ok-list.ensures.paths, c.in_ok-list.ensures.sizes) at c.size-size.ensures in
     elim c.then-bytes-size.branch [
-      then-bytes-size-via-then-bytes-size w ↦ refused-bytes m c.args.room c.args.words c.args.bytes c.in_ok-list.ensures.accepted limited (omega arith)
-    | then-bytes-size-via-else-bytes-size+then-room-self w ↦ refused-room m c.args.room c.args.words c.args.bytes c.in_ok-list.ensures.accepted limited (omega arith) (omega arith)
+      | then-bytes-size-via-then-bytes-size w ↦ refused-bytes m c.args.room c.args.words c.args.bytes c.in_ok-list.ensures.accepted limited (omega arith)
+      | then-bytes-size-via-else-bytes-size+then-room-self w ↦ refused-room m c.args.room c.args.words c.args.bytes c.in_ok-list.ensures.accepted limited (omega arith) (omega arith)
     ]
 
 pub overflow_add-size : goal.overflow_add-size
