@@ -6,6 +6,7 @@
 mod answer;
 mod editing;
 mod headers;
+mod masters;
 mod names;
 mod reading;
 mod regions;
@@ -17,6 +18,7 @@ pub use editing::{
     counter_move_file, counter_resize_file, counter_rewrite,
 };
 pub use headers::{counter_header, counter_open_dol};
+pub use masters::counter_master;
 pub use names::{counter_component, counter_name, counter_unit};
 pub use reading::{
     counter_entries, counter_entry, counter_fault, counter_lookup, counter_make_record,

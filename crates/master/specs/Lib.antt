@@ -1,3 +1,4 @@
 pub mod Master
+pub mod Asked
 pub mod Theorem
 pub mod Inner

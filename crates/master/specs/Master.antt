@@ -48,8 +48,12 @@ master_verdict m room words bytes =
 
 -- ---- the image
 
-unfoldable pub header_of_master : Master → DiscHeader
-header_of_master m = record blank_header { game_code = m.game_code; fst_offset = 0x440; fst_size = table_size m; user_size = m.disc_end }
+-- the game code, the table's size and the disc end; all else is 0 but the magic and the table's place
+unfoldable pub header_with : List ℕ → ℕ → ℕ → DiscHeader
+header_with game_code disc_end size = record blank_header { game_code = game_code; fst_offset = 0x440; fst_size = size; user_size = disc_end }
+
+abbrev pub header_of_master : Master → DiscHeader
+header_of_master m = header_with m.game_code m.disc_end (table_size m)
 
 -- header and table, and 0 in every other byte below the disc end; the bytes behind it stay
 unfoldable pub written_master : Master → List ℕ → List ℕ

@@ -1,10 +1,10 @@
 -- What holds of every new master: its tree is the wish list, as a reader of the table sees it; 21 is due exactly where no place is left;
 -- the image opens, shows what was wished for, and any list of edits may follow (RULES, A new master). Assumes nothing: these are
 -- definitions.
-use Rattle.std.specs.Prelude.{Ok, Err, ℕ, zero, suc, ◌+◌, ◌^◌, ◌<◌, ◌≤◌, ◌≡◌, true, false, List, [], ◌∷◌, ◌++◌, length, nat_eq, slice_index, slice_index_or}
+use Rattle.std.specs.Prelude.{Ok, Err, ℕ, zero, suc, ◌^◌, ◌<◌, ◌≤◌, ◌≡◌, true, false, List, [], ◌∷◌, ◌++◌, length, nat_eq, slice_index, slice_index_or}
 use mathlib.Core.List.{tail}
 use Rattle.std.specs.List.{starts_with}
-use Rattle.endian.specs.Bytes.{AllBytes, span}
+use Rattle.endian.specs.Bytes.{AllBytes}
 use Rattle.refusal.specs.declared.Refusal.TheVariants.{NotEnoughSpace}
 use Rattle.tree.specs.Table.{Node, file, directory, name_of, empty_root, parent_of}
 use Rattle.tree.specs.Lookup.{is_directory, next_of, lookup}

@@ -1,5 +1,11 @@
 mod Names
 mod Measuring
+mod Drafting
+mod Fronts
+mod Going
+mod Fitted
+mod Holding
 mod Limits
 mod Lists
 mod Sharing
+mod Written

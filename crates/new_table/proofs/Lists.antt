@@ -8,6 +8,7 @@ use Rattle.refusal.specs.Laws.Tests.{or-false, is_false}
 use Rattle.refusal.specs.Laws.Chains.{first-passed, refuse-passed}
 use Rattle.refusal.specs.Refusal.{Verdict, refuse, first}
 use Rattle.refusal.specs.declared.Refusal.TheVariants.{MissingNullTerminator}
+use Rattle.wish_list.proofs.Laws.AcceptedPaths.{list-accepted}
 use Rattle.wish_list.specs.Paths.{is_zero, has_rest, paths_in, ends_verdict, paths_verdict, list_verdict}
 
 pub ok-is : (v : Verdict) → IsTrue (is_ok v) → v ≡ Ok tt
@@ -27,21 +28,9 @@ no-rest (b ∷ s) e = go (is_zero (get_or (b ∷ s) (suc (length s) - 1) 0)) ref
     go false p true q r = let z : ◌≡◌ {A = ℕ} 0 1 = cc in absurd (omega arith)
     go false p false q r = let z : ◌≡◌ {A = ℕ} 0 1 = cc in absurd (omega arith)
 
-module _ (bytes : List ℕ) (n : ℕ) (h : IsTrue (is_ok (list_verdict bytes n))) where
-  passed : list_verdict bytes n ≡ Ok tt
-  passed = ok-is (list_verdict bytes n) h
+pub ended : (bytes : List ℕ) (n : ℕ) → IsTrue (is_ok (list_verdict bytes n)) → get_or bytes (length bytes - 1) 0 ≡ 0
+ended bytes n h = no-rest bytes (list-accepted bytes n (ok-is (list_verdict bytes n) h)).ended
 
-  ends : (has_rest bytes || not (count_by is_zero bytes == n)) ≡ false
-  unfolding list_verdict
-  ends = (refuse-passed (has_rest bytes || not (count_by is_zero bytes == n)) MissingNullTerminator (Ok tt) (first-passed (ends_verdict bytes n) (paths_verdict [] (paths_in bytes)) passed).0).0
-
-  pub ended : get_or bytes (length bytes - 1) 0 ≡ 0
-  ended = no-rest bytes (or-false (has_rest bytes) _ ends).0
-
-  -- one path for each size
-  pub counted : count_by is_zero bytes ≡ n
-  counted = eqb-true (count_by is_zero bytes) n (true-not _ (or-false (has_rest bytes) _ ends).1)
-    where
-      true-not : (t : Bool) → not t ≡ false → t ≡ true
-      true-not true e = refl
-      true-not false e = let z : ◌≡◌ {A = ℕ} 0 1 = cc in absurd (omega arith)
+-- one path for each size
+pub counted : (bytes : List ℕ) (n : ℕ) → IsTrue (is_ok (list_verdict bytes n)) → length (paths_in bytes) ≡ n
+counted bytes n h = (list-accepted bytes n (ok-is (list_verdict bytes n) h)).counted

@@ -72,7 +72,7 @@ pub record Shares (before path : List ℕ) (r : ℕ) : Type 0 where
   pub within : r ≤ length path
   pub rest : drop (common (names_of before) (names_of path)) (names_of path) ≡ names_of (drop r path)
 
-some-names : (path : List ℕ) → 0 < length (names_of path)
+pub some-names : (path : List ℕ) → 0 < length (names_of path)
 some-names path = omega (arith, length-names_of path)
 
 -- both go on with a byte b

@@ -1,11 +1,17 @@
 // The table of a new master, measured and within the limits.
-ghost use Rattle.std.specs.Prelude.{◌≡◌, ◌+◌, ◌*◌, [], length, Ok, Err, IsTrue, is_ok, IfOk, IfErr};
+ghost use Rattle.std.specs.Prelude.{◌≡◌, ℕ, ◌+◌, ◌*◌, ◌^◌, ◌<◌, ◌≤◌, [], length, take, slice_index, Ok, Err, IsTrue, is_ok, IfOk, IfErr};
+ghost use Rattle.endian.specs.Bytes.{put};
 ghost use Rattle.tree.specs.Table.{encode, limits};
 ghost use Rattle.wish_list.specs.Paths.{list_verdict};
+ghost use Rattle.new_table.specs.Inner.Drafts.{draft_bytes};
 ghost use Rattle.new_table.specs.Trees.{tree_of};
 
+use crate::draft::{self, Place};
+use crate::path;
 use crate::size::Size;
 use refusal::Refusal;
+use table_writing::{Kind, Record};
+use tree::{DEPTH_LIMIT, FileEntry};
 use wish_list::WishList;
 
 /// The file table of a wish list, measured: it is within the limits, wherever the files lie.
@@ -25,6 +31,12 @@ pub struct NewTable<'a> {
     pub ghost measured: { size ≡ length (encode (tree_of paths.now sizes.now [])) },
     /// The tree is within the limits, with as many words as it needs.
     pub ghost within: { IsTrue (is_ok (limits (tree_of paths.now sizes.now []) (4 * (entries + 2)))) },
+}
+
+// Does nothing: that each number fits 4 bytes is known where the slice is a parameter.
+fn bound(numbers: &[u32])
+    ensures { (i : ℕ) → slice_index numbers.now i < 2 ^ 32 }
+{
 }
 
 impl<'a> NewTable<'a> {
@@ -54,5 +66,60 @@ impl<'a> NewTable<'a> {
         ensures { result ≡ length (encode (tree_of self.now.paths.now self.now.sizes.now [])) }
     {
         self.size
+    }
+
+    /// Writes the table with the files at these offsets, one for each size. What is in `bytes` is lost.
+    pub fn write(&self, offsets: &[u32], bytes: &mut [u8], out: &mut [u8])
+        requires offsets { length offsets.now ≡ length self.now.sizes.now }
+        requires bytes { let list = self.now in
+            length (encode (tree_of list.paths.now list.sizes.now [])) ≤ length bytes.old }
+        requires out { let list = self.now in
+            length (encode (tree_of list.paths.now list.sizes.now [])) ≤ length out.old }
+        ensures { let list = self.now in
+            out.new ≡ put out.old 0 (encode (tree_of list.paths.now list.sizes.now offsets.now)) }
+    {
+        bound(self.sizes);
+        self.write_draft(offsets, bytes);
+        table_writing::write_table(&bytes[..self.size], out);
+    }
+
+    // Writes the table into `bytes`, each record with the parent 0: from the last path to the first, since
+    // there it is known where each directory ends.
+    fn write_draft(&self, offsets: &[u32], bytes: &mut [u8])
+        requires offsets { length offsets.now ≡ length self.now.sizes.now }
+        requires room { self.now.size ≤ length bytes.old }
+        ensures { take self.now.size bytes.new
+            ≡ draft_bytes (tree_of self.now.paths.now self.now.sizes.now offsets.now) }
+    {
+        let texts = 12 * self.entries;
+        let mut place = Place {
+            entry: self.entries,
+            text: self.size,
+        };
+        let mut ends = [self.entries as u32; DEPTH_LIMIT + 1];
+        let mut i = self.sizes.len();
+        let mut end = self.paths.len();
+        let mut path = path::path_before(self.paths, end);
+        while i > 0 {
+            i -= 1;
+            end -= path.len() + 1;
+            let before = path::path_before(self.paths, end);
+            let shared = path::shared_bytes(before, path);
+            let entry = FileEntry {
+                offset: offsets[i],
+                size: self.sizes[i],
+            };
+            place = place.write_path(bytes, texts, path, shared, entry, &ends);
+            let depth = path::slashes(&path[..shared]);
+            draft::close(&mut ends, depth + 1, path::slashes(before), place.entry as u32);
+            path = before;
+        }
+        let root = Record {
+            kind: Kind::Directory,
+            name: 0,
+            place: 0,
+            next: self.entries as u32,
+        };
+        root.write(bytes, 0);
     }
 }

@@ -1,6 +1,7 @@
 // The paths of a wish list: cut out of its bytes, and compared.
 ghost use Rattle.std.specs.Prelude.{◌≡◌, ◌+◌, ◌≤◌, ◌<◌, length, drop};
 ghost use Rattle.tree.specs.Table.{first_text};
+ghost use Rattle.new_table.specs.Inner.Cuts.{IsCut, IsPathBefore};
 ghost use Rattle.new_table.specs.Inner.Steps as steps;
 
 /// The path that starts at `at`, without its zero byte.
@@ -33,4 +34,28 @@ pub fn shared_bytes(before: &[u8], path: &[u8]) -> usize
         }
     }
     shared
+}
+
+/// Where the part without the byte b starts that ends before `end`: behind the last b, or at `from`.
+pub fn part_start(bytes: &[u8], b: u8, from: usize, end: usize) -> usize
+    requires order { from ≤ end }
+    requires within { end ≤ length bytes.now }
+    ensures { IsCut bytes.now b from result end }
+{
+    let mut start = end;
+    while from < start && bytes[start - 1] != b {
+        start -= 1;
+    }
+    start
+}
+
+/// The path whose zero byte is the last byte before `end`; an empty one at the start.
+pub fn path_before(paths: &[u8], end: usize) -> &[u8]
+    requires { end ≤ length paths.now }
+    ensures { IsPathBefore paths.now end result.now }
+{
+    if end == 0 {
+        return &[];
+    }
+    &paths[part_start(paths, 0, 0, end - 1)..end - 1]
 }

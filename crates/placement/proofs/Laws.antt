@@ -6,3 +6,4 @@ pub mod Offsets
 pub mod Passes
 pub mod Regions
 pub mod Sound
+pub mod Theorems

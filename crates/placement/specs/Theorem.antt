@@ -1,6 +1,5 @@
 -- What is proved of the placement: the files do not fit exactly if no placement does, the least disc end, and where the files lie.
--- Proved in proofs/Laws: `complete` of Complete; `sound`, `empty-at-0` and `last-largest` of Sound; `no-placement`, `none-fits`,
--- `ends-late` and `ends_there` of Exactly; `placed-passes` and `passes-placed` of Regions.
+-- Proved in proofs/Laws/Theorems.
 -- Assumes nothing: these are definitions.
 use Rattle.std.specs.Prelude.{ℕ, ◌%◌, ◌<◌, ◌≤◌, ◌≡◌, true, false, List, [], ◌∷◌, length, slice_index}
 use Rattle.space.specs.declared.region.DiscRegion.{DiscRegion}

@@ -5,13 +5,17 @@ use Rattle.std.proofs.lemmas.Bool.Decides.{nat_tests}
 use Rattle.tree.specs.Table.{first_text}
 use Rattle.wish_list.specs.Paths.{paths_in, onto_path, is_zero}
 
-is_zero-suc : (b : ℕ) → is_zero (suc b) ≡ false
+pub is_zero-suc : (b : ℕ) → is_zero (suc b) ≡ false
 is_zero-suc b = grind (arith, nat_tests)
 
 -- a byte that is no zero byte goes to the first path
 pub paths_in-more : (b : ℕ) (s : List ℕ) → paths_in (suc b ∷ s) ≡ onto_path (suc b) (paths_in s)
 unfolding paths_in
 paths_in-more b s = rw (is_zero-suc b)
+
+pub length-onto_path : (b : ℕ) (paths : List (List ℕ)) → length (onto_path b paths) ≡ length paths
+length-onto_path b [] = refl
+length-onto_path b (path ∷ paths) = refl
 
 onto-some : (b : ℕ) (paths : List (List ℕ)) → 0 < length (onto_path b paths) → 0 < length paths
 onto-some b [] h = h

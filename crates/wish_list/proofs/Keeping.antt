@@ -1,19 +1,17 @@
 -- The paths that came before, as they are kept: what they say of the next path, and that they are kept with it. Assumes nothing.
-use Rattle.std.specs.Prelude.{Ok, Err, ℕ, suc, ◌+◌, ◌<◌, ◌≤◌, ◌≡◌, refl, Bool, true, false, not, ◌&&◌, ◌||◌, List, [], ◌∷◌, length, take, ◌==◌, slice_index, slice_index_or, slice_set}
-use Rattle.std.specs.Bool.{if◌then◌else◌}
+use Rattle.std.specs.Prelude.{Ok, Err, ℕ, ◌+◌, ◌<◌, ◌≤◌, ◌≡◌, refl, Bool, true, false, not, ◌&&◌, ◌||◌, List, [], ◌∷◌, length, take, ◌==◌, slice_index, slice_index_or, slice_set}
 use Rattle.std.specs.List.{list_any}
 use Rattle.std.proofs.Common.{ap, sym, ◌∙◌, ⊎_elim, arith}
 use Rattle.std.proofs.Math.Seq.{take-length}
 use Rattle.std.proofs.lemmas.List.{get_or-set_same, get_or-set_other}
-use Rattle.std.proofs.lemmas.Bool.{false≢true}
 use Rattle.endian.specs.Bytes.{are_same_bytes}
 use Rattle.refusal.specs.declared.Refusal.TheVariants.{AlreadyExists}
-use Rattle.refusal.specs.Refusal.{Verdict, refuse}
+use Rattle.refusal.specs.Refusal.{refuse}
 use Rattle.refusal.specs.Laws.Chains.{refuse-passed}
-use Rattle.refusal.specs.Laws.Tests.{or-false, lt-or-le, lt-or-eq-or-gt}
+use Rattle.refusal.specs.Laws.Tests.{or-false, lt-or-le}
 use Rattle.wish_list.specs.Paths.{is_below, is_used_by, is_in_order}
 use Rattle.wish_list.specs.Inner.Earlier.{common_length, order_verdict, last_of, is_one_of, IsKept}
-use Rattle.wish_list.proofs.Order.{below-later, below-itself, used-itself, bytes-itself, bytes-front, common-within_last, common-within, take-common, used-common, bytes-common}
+use Rattle.wish_list.proofs.Order.{below-later, below-itself, used-itself, bytes-itself, bytes-front, common-within_last, take-common, used-common, bytes-common}
 
 is_in_order-last : (before : List (List ℕ)) (path : List ℕ) → 0 < length path → is_in_order before path ≡ is_below (last_of before) path
 is_in_order-last [] [] h = absurd (omega arith)
@@ -84,7 +82,7 @@ module _ (before : List (List ℕ)) (last path : List ℕ) (marks : List Bool) (
     none_around = rw (used-itself path) (none_used v);
     marked = λ n w. ⊎_elim (λ (l : n < length path). rw (bytes-front path n l) (get_or-set_other now (length path) n true false (λ d. omega arith) ∙ front n l))
         (λ (l : length path ≤ n). let d : n ≡ length path = omega arith in rw (d, take-length path, bytes-itself path) (get_or-set_same now (length path) true false room))
-        (lt-or-le n (length path))
+        (lt-or-le n (length path));
   }
     where
       front : (n : ℕ) → n < length path → slice_index_or now n false ≡ is_one_of before (take n path)

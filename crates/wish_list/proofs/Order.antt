@@ -1,6 +1,6 @@
 -- The order of paths, and the paths that another begins with. Assumes nothing.
-use Rattle.std.specs.Prelude.{ℕ, zero, suc, ◌+◌, ◌<◌, ◌≤◌, ◌≡◌, refl, ◌⊎◌, Bool, true, false, not, ◌&&◌, ◌||◌, List, [], ◌∷◌, ◌++◌, length, take, ◌==◌, slice_index}
-use Rattle.std.proofs.Common.{ap, sym, ◌∙◌, ⊎_elim, arith, add-one}
+use Rattle.std.specs.Prelude.{ℕ, zero, suc, ◌<◌, ◌≤◌, ◌≡◌, refl, Bool, true, false, not, ◌&&◌, List, [], ◌∷◌, length, take, ◌==◌, slice_index}
+use Rattle.std.proofs.Common.{ap, sym, ◌∙◌, ⊎_elim, arith}
 use Rattle.std.proofs.lemmas.Bool.{false≢true, eq-eqb, eqb-true}
 use Rattle.std.proofs.lemmas.Bool.Decides.{nat_tests}
 use Rattle.std.specs.Cmp.Lexicographic.{slice_partial_cmp}
@@ -176,8 +176,8 @@ used-common (x ∷ last) (y ∷ path) (z ∷ file) h g u =
     if_below x y last path h
     (λ (l : x < y). rw (common-less x y last path l) (used-other z y file path (if_not_below x z last file g (λ (m : z < x) e. omega arith) (λ (d : x ≡ z) q e. omega arith))))
     (λ (e : x ≡ y) p. if_not_below x z last file g
-        (λ (m : z < x). rw (common-same x y last path e, used-other z y file path (λ d. omega arith)) (rw (bytes-other z x file (take (common_length last path) last) (λ d. omega arith))))
-        (λ (d : x ≡ z) q. rw (common-same x y last path e, used-same z y file path (sym d ∙ e)) (rw (bytes-same z x file (take (common_length last path) last) (sym d)) (used-common last path file p q (sym (used-same z x file last (sym d)) ∙ u)))))
+    (λ (m : z < x). rw (common-same x y last path e, used-other z y file path (λ d. omega arith)) (rw (bytes-other z x file (take (common_length last path) last) (λ d. omega arith))))
+    (λ (d : x ≡ z) q. rw (common-same x y last path e, used-same z y file path (sym d ∙ e)) (rw (bytes-same z x file (take (common_length last path) last) (sym d)) (used-common last path file p q (sym (used-same z x file last (sym d)) ∙ u)))))
 
 -- LAW: a file that is not behind the last path is no longer front of the next path
 pub bytes-common : (last path file : List ℕ) (n : ℕ) → is_below last path ≡ true → is_below last file ≡ false → common_length last path < n → n ≤ length path →
@@ -193,5 +193,5 @@ bytes-common (x ∷ last) (y ∷ path) (z ∷ file) (suc n) h g m w =
     if_below x y last path h
     (λ (l : x < y). bytes-other z y file (take n path) (if_not_below x z last file g (λ (k : z < x) e. omega arith) (λ (d : x ≡ z) q e. omega arith)))
     (λ (e : x ≡ y) p. if_not_below x z last file g
-        (λ (k : z < x). bytes-other z y file (take n path) (λ d. omega arith))
-        (λ (d : x ≡ z) q. let r = rw (common-same x y last path e) at m in bytes-same z y file (take n path) (sym d ∙ e) ∙ bytes-common last path file n p q (omega arith) (omega arith)))
+    (λ (k : z < x). bytes-other z y file (take n path) (λ d. omega arith))
+    (λ (d : x ≡ z) q. let r = rw (common-same x y last path e) at m in bytes-same z y file (take n path) (sym d ∙ e) ∙ bytes-common last path file n p q (omega arith) (omega arith)))

@@ -9,7 +9,8 @@ use tree::PATH_LIMIT;
 
 // How many bytes two paths have in common, up to the first that differs.
 fn common_length(a: &[u8], b: &[u8]) -> usize
-    ensures { result ≡ common_length a.now b.now }
+    ensures value { result ≡ common_length a.now b.now }
+    ensures within { result ≤ length b.now }
 {
     a.iter().zip(b.iter()).take_while(|(x, y)| x == y).count()
 }
@@ -26,13 +27,12 @@ fn clear(marks: &mut [bool], from: usize, to: usize)
     marks[from..to].fill(false);
 }
 
-/// The paths that came before, each behind the one before it, so that those that a path begins with are no
-/// longer than what it has in common with the last of them.
+/// The paths that came before, each behind the one before it: what has to be known of them for the next one.
 #[derive(Drop)]
 pub struct Earlier<'a> {
     // The last path.
     last: &'a [u8],
-    // Whether so many bytes of it are one of the paths.
+    // Whether its first bytes, so many, are one of the paths.
     marks: [bool; PATH_LIMIT + 1],
 }
 
@@ -47,7 +47,8 @@ impl<'a> Earlier<'a> {
         }
     }
 
-    // Whether so many bytes of the last path are one of the paths, and the next byte of this path is `/`.
+    // Whether so many bytes, which this path has in common with the last one, are one of the paths, and the
+    // next byte of this path is `/`.
     fn is_around(&self, path: &[u8], common: usize) -> bool
         requires within { common < length path.now }
         requires short { common ≤ 1024 }
@@ -70,8 +71,8 @@ impl<'a> Earlier<'a> {
         if path <= self.last {
             return Err(Refusal::AlreadyExists);
         }
-        // A path that is longer than this part and begins with it would be behind the last one, and one that
-        // is shorter is no directory around the last one.
+        // A file that is a directory around this path is the part in common with the last one: if it were
+        // longer, it would be behind the last path, and if it were shorter, it would be around that one too.
         let common = common_length(self.last, path);
         if self.is_around(path, common) {
             return Err(Refusal::AlreadyExists);

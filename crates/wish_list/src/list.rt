@@ -1,10 +1,10 @@
 // The wish list: its paths and sizes, judged.
-ghost use Rattle.std.specs.Prelude.{◌≡◌, Ok, Err, length, IsTrue, is_ok};
+ghost use Rattle.std.specs.Prelude.{◌≡◌, ℕ, List, [], ◌∷◌, Ok, Err, length, IsTrue, is_ok};
 ghost use Rattle.std.specs.Result.{IfOk, IfErr};
 ghost use Rattle.std.specs.List.{list_all};
 ghost use Rattle.tree.specs.Table.{is_plain, is_safe};
-ghost use Rattle.wish_list.specs.Paths.{names_of, ends_verdict, list_verdict};
-ghost use Rattle.wish_list.specs.Inner.Earlier.{form_verdict};
+ghost use Rattle.wish_list.specs.Paths.{paths_in, names_of, ends_verdict, path_verdict, paths_verdict, list_verdict};
+ghost use Rattle.wish_list.specs.Inner.Earlier.{form_verdict, IsKept};
 
 use crate::earlier::Earlier;
 use crate::paths::first_path;
@@ -55,24 +55,45 @@ fn form_verdict(path: &[u8]) -> Verdict
     Ok(())
 }
 
-// What the paths of so many files are refused for.
-fn list_verdict(paths: &[u8], count: usize) -> Verdict
-    ensures { result ≡ list_verdict paths.now count }
+// Adds a path to those before it, or says what it is refused for.
+fn add_path<'a>(earlier: &mut Earlier<'a>, path: &'a [u8]) -> Verdict
+    ensures verdict { (before : List (List ℕ)) →
+        IsKept before earlier.old.last.now earlier.old.marks →
+        result ≡ path_verdict before path.now }
+    ensures kept { (before : List (List ℕ)) →
+        IsKept before earlier.old.last.now earlier.old.marks →
+        IfOk result (λ _. IsKept (path.now ∷ before) earlier.new.last.now earlier.new.marks) }
 {
-    ends_verdict(paths, count)?;
+    form_verdict(path)?;
+    earlier.add(path)
+}
+
+// What so many paths are refused for.
+fn paths_verdict(paths: &[u8], count: usize) -> Verdict
+    requires { length (paths_in paths.now) ≡ count }
+    ensures { result ≡ paths_verdict [] (paths_in paths.now) }
+{
     let mut earlier = Earlier::new();
     let mut rest = paths;
     for _ in 0..count {
         let path = first_path(rest);
-        form_verdict(path)?;
-        earlier.add(path)?;
+        add_path(&mut earlier, path)?;
         rest = &rest[path.len() + 1..];
     }
     Ok(())
 }
 
+// What the paths of so many files are refused for.
+fn list_verdict(paths: &[u8], count: usize) -> Verdict
+    ensures { result ≡ list_verdict paths.now count }
+{
+    ends_verdict(paths, count)?;
+    paths_verdict(paths, count)
+}
+
 /// The paths and sizes of a new master's files, judged: each path is ended by a zero byte, and there is one
 /// for each size.
+#[derive(Clone, Copy, Debug, PartialEq, Eq)]
 pub struct WishList<'a> {
     /// The paths, each with its zero byte.
     pub paths: &'a [u8],
@@ -85,8 +106,7 @@ pub struct WishList<'a> {
 impl<'a> WishList<'a> {
     /// Judges the paths of files with these sizes.
     pub fn new(paths: &'a [u8], sizes: &'a [u32]) -> Result<Self, Refusal>
-        ensures refused {
-            IfErr result (λ cause. list_verdict paths.now (length sizes.now) ≡ Err cause) }
+        ensures refused { IfErr result (λ cause. list_verdict paths.now (length sizes.now) ≡ Err cause) }
         ensures accepted { IfOk result (λ _. list_verdict paths.now (length sizes.now) ≡ Ok tt) }
         ensures paths { IfOk result (λ list. list.paths.now ≡ paths.now) }
         ensures sizes { IfOk result (λ list. list.sizes.now ≡ sizes.now) }

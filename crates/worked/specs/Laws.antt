@@ -8,6 +8,11 @@ pub mod ListSteps
 pub mod Marked
 pub mod MasterListing
 pub mod Maximum
+pub mod NewMasters
+pub mod NewMastersApplied
+pub mod NewMastersImage
+pub mod NewMastersPaths
+pub mod NewMastersPlaced
 pub mod Places
 pub mod Programs
 pub mod Records

@@ -1,13 +1,12 @@
 -- A new master is a list of bytes, as the buffer is; so any list of edits may follow. And 21 exactly. Assumes nothing.
-use Rattle.std.specs.Prelude.{Ok, Err, ℕ, zero, suc, ◌+◌, ◌<◌, ◌≤◌, ◌≡◌, refl, Bool, true, false, not, List, [], ◌∷◌, length, get_or, replicate}
-use Rattle.std.proofs.Common.{arith, ap, ◌∙◌}
+use Rattle.std.specs.Prelude.{Ok, Err, ℕ, ◌+◌, ◌≤◌, ◌≡◌, refl, Bool, true, false, not, List, [], ◌∷◌, length, replicate}
+use Rattle.std.proofs.Common.{arith}
 use Rattle.std.proofs.lemmas.List.{length-replicate}
 use Rattle.endian.specs.Bytes.{put, AllBytes}
 use Rattle.endian.specs.Laws.Stored.{length-put, put-bytes}
 use Rattle.refusal.specs.declared.Refusal.TheVariants.{NotEnoughSpace}
-use Rattle.refusal.specs.Refusal.{refuse, first}
+use Rattle.refusal.specs.Refusal.{refuse}
 use Rattle.header.specs.declared.fields.Field.{Field}
-use Rattle.header.specs.declared.value.DiscHeader.{DiscHeader}
 use Rattle.header.specs.Fields.{fields}
 use Rattle.header.specs.Header.{blank_header, field_bytes, put_fields, put_header}
 use Rattle.header.specs.Laws.Tiling.{tile, fields-tile, tile-start, tile-rest, tile-le}
@@ -20,9 +19,9 @@ use Rattle.ledger.proofs.Laws.AfterAnyList.{ledger-holds}
 use Rattle.placement.specs.Placement.{is_placeable}
 use Rattle.placement.specs.Places.{IsPlaced}
 use Rattle.placement.proofs.Laws.Exactly.{no-placement, none-fits}
-use Rattle.master.specs.Master.{Master, nodes_of_master, table_size, first_free, header_of_master, before_place, master_verdict, written_master}
+use Rattle.master.specs.Master.{Master, nodes_of_master, table_size, first_free, header_with, header_of_master, master_verdict, written_master}
 use Rattle.master.specs.Theorem.{IsGranted, RefusedExactly, AnyListFollows}
-use Rattle.master.proofs.Laws.Written.{get_or-replicate_lem, Fits, sized, length-blank, whole, table-fits, length-head}
+use Rattle.master.proofs.Laws.Written.{get_or-replicate_lem, Fits, sized, length-blank, whole, table-fits}
 use Rattle.master.proofs.Laws.Opens.{fits, well, opens-new}
 
 -- ---- bytes put field by field
@@ -50,7 +49,7 @@ module _ (m : Master) (image : List ℕ) (words bytes : ℕ) (all : AllBytes ima
   f = fits m image words bytes g
 
   runs : AllRuns (field_bytes (header_of_master m))
-  unfolding field_bytes header_of_master blank_header
+  unfolding field_bytes header_with blank_header
   runs = (g.passable.code_bytes, (zeros-all 2, (zero-byte, (zero-byte, (zero-byte, (zero-byte, (zeros-all 14, (be32-all 0, (be32-all gcn_magic, (zeros-all 0x3E0, (be32-all 0, (be32-all 0, (zeros-all 0x18, (be32-all 0, (be32-all 0x440, (be32-all (table_size m), (be32-all 0, (be32-all 0, (be32-all m.disc_end, (be32-all 0, (be32-all 0, tt)))))))))))))))))))))
 
   pub all-new : AllBytes (written_master m image)

@@ -1,9 +1,8 @@
 -- A new master that is granted opens with the words that were lent, and reads as the tree that it was made for. Assumes nothing.
-use Rattle.std.specs.Prelude.{Ok, Err, ℕ, suc, drop, ◌+◌, ◌^◌, ◌<◌, ◌≤◌, ◌≡◌, refl, Bool, true, false, not, List, [], ◌∷◌, ◌++◌, length, get_or, leb, ltb}
-use Rattle.std.proofs.Common.{sym, ap, ◌∙◌, arith, ltb-false, length-drop}
+use Rattle.std.specs.Prelude.{Ok, ℕ, suc, drop, ◌+◌, ◌<◌, ◌≤◌, ◌≡◌, refl, true, not, List, [], ◌∷◌, ◌++◌, length, ltb}
+use Rattle.std.proofs.Common.{◌∙◌, arith, ltb-false, length-drop}
 use Rattle.std.proofs.lemmas.Bool.{not-false}
 use Rattle.refusal.specs.declared.Refusal.TheVariants.{LimitOrMemory, NotEnoughSpace}
-use Rattle.refusal.specs.Refusal.{refuse, first}
 use Rattle.refusal.specs.Laws.Chains.{refuse-passed, first-passed}
 use Rattle.tree.specs.Table.{Node, file, directory, encode, limits}
 use Rattle.tree.specs.Inner.WellFormed.{IsWellFormed}
@@ -11,7 +10,7 @@ use Rattle.tree.proofs.Laws.RoundTrip.{written-accepted, written-reads}
 use Rattle.space.specs.declared.region.DiscRegion.{DiscRegion}
 use Rattle.space.specs.Used.{no_region, nonempty_regions, used_regions}
 use Rattle.space.specs.Layout.{are_disjoint_below}
-use Rattle.opened.specs.Opening.{table_of, nodes_in, regions_behind_table, used_in, opening}
+use Rattle.opened.specs.Opening.{nodes_in, regions_behind_table, used_in, opening}
 use Rattle.header.specs.Verdicts.{disc_end}
 use Rattle.ledger.specs.Inner.Files.{pick, files_of}
 use Rattle.ledger.proofs.Laws.Files.{used-files}
@@ -28,8 +27,8 @@ use Rattle.placement.proofs.Laws.Sound.{sound}
 use Rattle.placement.proofs.Laws.Regions.{placed-passes}
 use Rattle.placement.proofs.Laws.Offsets.{length-offsets_of, offsets-below}
 use Rattle.master.specs.Master.{Master, nodes_at, nodes_of_master, table_size, first_free, before_place, master_verdict, written_master}
-use Rattle.master.specs.Theorem.{IsPassable, IsGranted, IsOpenedAs, NewMasterOpens}
-use Rattle.master.proofs.Laws.Written.{Fits, good, length-new, fst-offset-new, fst-size-new, disc-end-new, table-end-new, table-new, program-new, program_behind-new, zero-new, behind-new}
+use Rattle.master.specs.Theorem.{IsGranted, NewMasterOpens}
+use Rattle.master.proofs.Laws.Written.{Fits, good, length-new, fst-offset-new, disc-end-new, table-end-new, table-new, program-new, program_behind-new, zero-new, behind-new}
 
 -- ---- what a granted list has passed
 

@@ -3,10 +3,10 @@ use Rattle.std.specs.Prelude.{ℕ, ◌+◌, ◌^◌, ◌<◌, ◌≤◌, ◌≡�
 use Rattle.std.specs.Prelude.{Ok, None, Bool, true, false, cond, zero, suc}
 use Rattle.std.proofs.Common.{ap, ◌∙◌, arith, zero-add}
 use Rattle.std.proofs.lemmas.List.{length-replicate}
-use Rattle.endian.specs.Bytes.{be32, put, span}
+use Rattle.endian.specs.Bytes.{be32, put}
 use Rattle.endian.specs.Laws.Stored.{length-put, put-before, put-after, put_in, be32-same, span-put}
 use Rattle.header.specs.declared.value.DiscHeader.{DiscHeader}
-use Rattle.header.specs.Verdicts.{gcn_magic, wii_magic, dol_offset, fst_offset, fst_size, fst_max_size, user_size, disc_size, disc_end, table_end}
+use Rattle.header.specs.Verdicts.{gcn_magic, dol_offset, fst_offset, fst_size, user_size, disc_size, disc_end, table_end}
 use Rattle.header.specs.Header.{blank_header, header_of, put_header}
 use Rattle.header.specs.Laws.FieldTests.{GoodHeader}
 use Rattle.header.specs.Laws.RoundTrip.{Sized, length-written, written_behind, read-write}
@@ -14,7 +14,7 @@ use Rattle.tree.specs.Table.{encode}
 use Rattle.opened.specs.Opening.{table_of}
 use Rattle.space.specs.Used.{no_region}
 use Rattle.executable.specs.Program.{is_before_table, program_of, program_in, own_region, program_behind}
-use Rattle.master.specs.Master.{Master, nodes_of_master, table_size, first_free, header_of_master, written_master}
+use Rattle.master.specs.Master.{Master, nodes_of_master, table_size, first_free, header_with, header_of_master}
 
 -- what an accepted list gives of the numbers
 pub record Fits (m : Master) (image : List ℕ) : Type 0 where
@@ -54,7 +54,7 @@ module _ (m : Master) (image : List ℕ) (f : Fits m image) where
   new = put head 0x440 tab
 
   pub sized : Sized h
-  unfolding header_of_master blank_header
+  unfolding header_with blank_header
   sized = record {
     game-code = f.code;
     maker-code = refl;
@@ -102,7 +102,7 @@ module _ (m : Master) (image : List ℕ) (f : Fits m image) where
   read = read-write h sized blank whole
 
   pub good : GoodHeader new
-  unfolding header_of header_of_master blank_header
+  unfolding header_of header_with blank_header
   good =
       let w : be32 new 0x18 ≡ 0 = word-stays 0x18 (omega arith) ∙ ap (λ (x : DiscHeader). x.wii_magic) read in
       let g : be32 new 0x1C ≡ gcn_magic = word-stays 0x1C (omega arith) ∙ ap (λ (x : DiscHeader). x.gcn_magic) read in
@@ -113,19 +113,19 @@ module _ (m : Master) (image : List ℕ) (f : Fits m image) where
       }
 
   pub dol-offset-new : dol_offset new ≡ 0
-  unfolding header_of header_of_master blank_header
+  unfolding header_of header_with blank_header
   dol-offset-new = word-stays 0x420 (omega arith) ∙ ap (λ (x : DiscHeader). x.dol_offset) read
 
   pub fst-offset-new : fst_offset new ≡ 0x440
-  unfolding header_of header_of_master blank_header
+  unfolding header_of header_with blank_header
   fst-offset-new = word-stays 0x424 (omega arith) ∙ ap (λ (x : DiscHeader). x.fst_offset) read
 
   pub fst-size-new : fst_size new ≡ table_size m
-  unfolding header_of header_of_master blank_header
+  unfolding header_of header_with blank_header
   fst-size-new = word-stays 0x428 (omega arith) ∙ ap (λ (x : DiscHeader). x.fst_size) read
 
   pub disc-end-new : disc_end new ≡ m.disc_end
-  unfolding header_of header_of_master blank_header
+  unfolding header_of header_with blank_header
   disc-end-new =
       let u : user_size new ≡ m.disc_end = word-stays 0x434 (omega arith) ∙ ap (λ (x : DiscHeader). x.user_size) read in
       let d : disc_size new ≡ 0 = word-stays 0x438 (omega arith) ∙ ap (λ (x : DiscHeader). x.disc_size) read in
@@ -138,7 +138,7 @@ module _ (m : Master) (image : List ℕ) (f : Fits m image) where
 
   pub table-new : table_of new ≡ tab
   unfolding table_of
-  table-new = rw (fst-offset-new, fst-size-new, ← f.size) (span-put head 0x440 tab table-fits)
+  table-new = rw (fst-offset-new, fst-size-new) (rw f.size at (span-put head 0x440 tab table-fits))
 
   -- ---- no program
 

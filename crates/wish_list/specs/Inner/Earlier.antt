@@ -38,7 +38,7 @@ last_of (last ∷ paths) = last
 abbrev pub is_one_of : List (List ℕ) → List ℕ → Bool
 is_one_of paths path = list_any (λ file. are_same_bytes file path) paths
 
--- the last of them, which none is behind and none is a directory around, and a mark for each n: whether its first n bytes are one of them
+-- the last of them, which none is behind and none is a directory around, and marks: whether its first n bytes are one of them
 pub record IsKept (before : List (List ℕ)) (last : List ℕ) (marks : List Bool) : Type 0 where
   pub is_last : last ≡ last_of before
   pub none_behind : list_any (λ file. is_below last file) before ≡ false

@@ -1,5 +1,5 @@
 -- `wish_list::list::has_plain_names` meets its contract.
-use Rattle.std.proofs.Common.{rules, arith, tests}
+use Rattle.std.proofs.Common.{rules, tests}
 use Rattle.std.proofs.lemmas.Iterator.Search.{all_from_yields_List}
 use Rattle.std.proofs.lemmas.Iterator.Splits.{YieldsList-from_slice_split}
 use Rattle.tree.specs.Table.{is_plain}
@@ -9,5 +9,5 @@ use Rattle.wish_list.proofs.list.has_plain_names.Goals as goal
 pub returns : goal.returns
 returns c =
     all_from_yields_List is_plain _ _ _ c.all.ensures.ran
-        (YieldsList-from_slice_split _ is_slash c.args.path.now c.split.ensures.rest c.split.ensures.done c.split.ensures.closure (λ x b q k. search (rules, tests)))
-        (λ x b q k. search (rules, tests))
+    (YieldsList-from_slice_split _ is_slash c.args.path.now c.split.ensures.rest c.split.ensures.done c.split.ensures.closure (λ x b q k. search (rules, tests)))
+    (λ x b q k. search (rules, tests))
