@@ -504,7 +504,7 @@ pub const FORMS: &[Form] = &[
         examples: &[
             "counter new new.iso --size 0x57058000 --code GCLE --from wishes.txt --dry-run",
             "counter new new.iso --size 0x57058000 --code GCLE --from wishes.txt",
-            "counter new filled.iso --size 2M --code GCLE --from-dir files",
+            "counter new filled.iso --size 2M --code GCLE --from-dir parts",
         ],
     },
 ];
