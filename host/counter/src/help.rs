@@ -403,7 +403,8 @@ fn statuses() -> String {
          \x20     --record: a FILE that is torn or no record, or whose used bytes or largest free region\n\
          \x20     are not the image's;\n\
          \x20     fill: a clip of no bytes without --empty, or of other than --size bytes;\n\
-         \x20     new: a LIST that is wrong, or a name in DIR that an image cannot have\n\
+         \x20     new: a LIST that is wrong, a name in DIR that an image cannot have, or a file in DIR\n\
+         \x20     that has another length meanwhile\n\
          \x20 66  no such image or clip, or a folder in its place, or a special file in the image's;\n\
          \x20     new: no such LIST or DIR, or a link or a special file in DIR\n\
          \x20 70  the library answered what it never should\n\

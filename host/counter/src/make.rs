@@ -156,10 +156,10 @@ fn told(args: &Args, wish: &Wish, disc: &Disc) -> Json {
     let spell = |name: &[u8]| names::text(name).into_bytes();
     let notes = notes(wish, disc, spell).into_iter();
     let notes = notes.map(|note| String::from_utf8_lossy(&note).into_owned().into());
-    let left_out = wish.files.left_out.iter().map(|folder| names::file(folder).into());
+    let left_out = wish.files.left_out.iter().map(|folder| folder.display().to_string().into());
     let [used, free, largest] = totals(disc);
     Json::answer(vec![
-        ("out", names::file(wish.out).into()),
+        ("out", wish.out.display().to_string().into()),
         ("dry_run", args.dry.into()),
         ("written", (!args.dry).into()),
         ("size", wish.size.into()),

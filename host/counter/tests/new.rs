@@ -3,6 +3,7 @@
 mod support;
 
 use std::fs::{self, File};
+use std::io::Read;
 use std::os::unix::ffi::OsStrExt;
 use std::os::unix::fs::{OpenOptionsExt, symlink};
 use std::path::{Path, PathBuf};
@@ -560,17 +561,16 @@ fn on_a_full_disk_nothing_is_left() {
     assert_eq!(names(&temp.at("")), before);
 }
 
-/// A run that waits, with its new file in the midst of the writing: its log is a pipe that nobody reads.
-fn waiting(temp: &Temp) -> (Child, File) {
-    let lines: Vec<String> = (0..8000).map(|k| format!("{k:05} 1\n")).collect();
-    let list = temp.write("wishes.txt", lines.concat().as_bytes());
+/// A run that waits, with its new file in the midst of the writing: its log is a pipe, of which nobody reads what
+/// the pipe cannot hold.
+fn waiting(temp: &Temp, from: &str, source: &Path) -> (Child, File) {
     let pipe = temp.at("log");
     assert!(Command::new("mkfifo").arg(&pipe).status().unwrap().success());
     const O_NONBLOCK: i32 = 0x800;
     let log = File::options().read(true).custom_flags(O_NONBLOCK).open(&pipe).unwrap();
     let mut command = program();
     command.arg("new").arg(temp.at("new.iso"));
-    command.args(["--size", "0x10000000", "--code", "GCTE", "--from", list.to_str().unwrap()]);
+    command.args(["--size", "0x10000000", "--code", "GCTE", from, source.to_str().unwrap()]);
     command.stdout(Stdio::piped()).stderr(Stdio::piped()).env("COUNTER_LOG_WRITES", &pipe);
     let child = command.spawn().unwrap();
     let early = temp.at(&format!("counter-new.{}", child.id()));
@@ -583,11 +583,17 @@ fn waiting(temp: &Temp) -> (Child, File) {
     panic!("{} is not there", early.display());
 }
 
+/// A list whose table the pipe cannot hold.
+fn many(temp: &Temp) -> PathBuf {
+    let lines: Vec<String> = (0..8000).map(|k| format!("{k:05} 1\n")).collect();
+    temp.write("wishes.txt", lines.concat().as_bytes())
+}
+
 #[test]
 fn a_run_that_is_cut_leaves_nothing() {
     for number in [SIGHUP, SIGINT, SIGQUIT, SIGTERM, SIGBUS] {
         let temp = Temp::new();
-        let (child, log) = waiting(&temp);
+        let (child, log) = waiting(&temp, "--from", &many(&temp));
         assert_eq!(names(&temp.at("")).len(), 3);
         send(&child, number);
         let run: Run = child.wait_with_output().unwrap().into();
@@ -602,9 +608,61 @@ fn a_run_that_is_cut_leaves_nothing() {
     }
     // Nobody can tidy up after SIGKILL; but there is no OUT.
     let temp = Temp::new();
-    let (mut child, _log) = waiting(&temp);
+    let (mut child, _log) = waiting(&temp, "--from", &many(&temp));
     child.kill().unwrap();
     child.wait().unwrap();
     let early = format!("counter-new.{}", child.id());
     assert_eq!(names(&temp.at("")), [&early, "log", "wishes.txt"]);
+}
+
+/// Lets a run that waits go on to its end.
+fn go_on(child: Child, mut log: File) -> Run {
+    let reader = thread::spawn(move || {
+        let mut part = [0; 0x1_0000];
+        while let Ok(1..) | Err(_) = log.read(&mut part) {
+            thread::sleep(Duration::from_millis(1));
+        }
+    });
+    let run = child.wait_with_output().unwrap().into();
+    reader.join().unwrap();
+    run
+}
+
+#[test]
+fn what_changes_meanwhile() {
+    // Another file by the name of OUT, and a file of DIR that becomes longer, or goes.
+    for case in ["nothing", "taken", "longer", "gone"] {
+        let temp = Temp::new();
+        let folder = temp.at("files");
+        fs::create_dir(&folder).unwrap();
+        for k in 0..400 {
+            fs::write(folder.join(format!("{k:0200}")), [k as u8; 3]).unwrap();
+        }
+        let (child, log) = waiting(&temp, "--from-dir", &folder);
+        let last = folder.join(format!("{:0200}", 399));
+        let (status, words) = match case {
+            "taken" => {
+                temp.write("new.iso", b"mine");
+                (73, "is there already")
+            }
+            "longer" => {
+                fs::write(&last, b"four").unwrap();
+                (65, "it had 3 bytes, and has 4 now")
+            }
+            "gone" => {
+                fs::remove_file(&last).unwrap();
+                (66, "no such file")
+            }
+            _ => (0, ""),
+        };
+        let run = go_on(child, log);
+        assert_eq!(run.status, status, "{case}: {}", run.err);
+        assert!(run.err.contains(words), "{case}: {}", run.err);
+        match case {
+            "nothing" => assert_eq!(names(&temp.at("")), ["files", "log", "new.iso"]),
+            "taken" => assert_eq!(fs::read(temp.at("new.iso")).unwrap(), b"mine"),
+            _ => assert_eq!(names(&temp.at("")), ["files", "log"], "{case}"),
+        }
+        assert!(names(&temp.at("")).iter().all(|name| !name.starts_with("counter-new")), "{case}");
+    }
 }
