@@ -12,6 +12,7 @@ use std::ops::Range;
 use std::os::fd::AsFd;
 use std::os::unix::fs::{MetadataExt, OpenOptionsExt, PermissionsExt};
 use std::path::{Path, PathBuf};
+use std::slice;
 use std::sync::atomic::{AtomicBool, Ordering};
 
 /// How an image without a file is called in what the program says.
@@ -71,8 +72,9 @@ impl Image {
 
     /// An image of zeros in memory. What is written behind the first `kept` bytes takes none, and is lost.
     pub fn blank(path: &Path, len: usize, kept: usize) -> Outcome<Image> {
+        let behind = kept.min(len)..len;
         let made = Mapping::blank(len)
-            .and_then(|mut mapping| mapping.stand_in(&[kept.min(len)..len]).map(|()| mapping));
+            .and_then(|mut mapping| mapping.stand_in(slice::from_ref(&behind)).map(|()| mapping));
         let mapping = made.map_err(|e| Failure::file(INPUT_OUTPUT, path, &e))?;
         Ok(Image { name: names::file(path), path: None, bytes: Bytes::Blank(mapping) })
     }

@@ -7,6 +7,7 @@ use crate::disc::{Disc, Kind, Node, not_opened, table_end};
 use crate::disk::{self, On};
 use crate::failure::{CANNOT_CREATE, DATA, Failure, INPUT_OUTPUT, INTERNAL, Outcome};
 use crate::image::{Desk, Image, cannot_open};
+use crate::journal;
 use crate::json::{self, Json};
 use crate::names::{self, shown};
 use crate::os::{self, Access, Mapping};
@@ -42,7 +43,10 @@ pub fn new(args: &Args) -> Outcome<()> {
     let out = args.image.as_deref().ok_or_else(usage)?;
     let (size, code) = args.size.zip(args.code.as_deref()).ok_or_else(usage)?;
     let (code, filled) = (game_code(code)?, args.folder.is_some());
-    vacant(out)?;
+    // A journal by that name would be taken for one of the new image.
+    for path in [out, &journal::beside(out), &journal::clip_beside(out)] {
+        vacant(path)?;
+    }
     let files = match (&args.from, &args.folder) {
         (Some(list), None) => Files::listed(list)?,
         (None, Some(folder)) => Files::found(folder)?,
@@ -61,8 +65,9 @@ pub fn new(args: &Args) -> Outcome<()> {
         (true, false) => return say(&dry(&text)),
         _ => {}
     }
-    let front = &image.bytes()[..table_end(&disc.opened) as usize];
-    write(&wish, &disc, &mut desk, front)?;
+    let front = image.bytes()[..table_end(&disc.opened) as usize].to_vec();
+    drop(image);
+    write(&wish, &disc, &mut desk, &front)?;
     let last: &[u8] = if args.json { b"" } else { b"done: written and synced\n" };
     finish(&[&text, last].concat())
 }

@@ -479,6 +479,14 @@ fn what_is_there_stays() {
     }
     assert_eq!(fs::read(&file).unwrap(), b"mine");
     assert_eq!(names(&temp.at("")), before);
+    // A journal, or a clip, that would be taken for one of the new image's.
+    for end in ["iso.counter-journal", "iso.counter-clip"] {
+        let left = temp.write(&format!("new.{end}"), b"");
+        let run = new(&temp.at("new.iso"), "1M", "--from", &list, &[]);
+        assert_eq!(run.status, 73, "{}", run.err);
+        assert!(run.err.contains(end), "{}", run.err);
+        fs::remove_file(left).unwrap();
+    }
     // Where it cannot be made, and a name that has another use.
     assert_eq!(new(&temp.at("nowhere/new.iso"), "1M", "--from", &list, &[]).status, 73);
     assert_eq!(new(&temp.at("x.iso.counter-journal"), "1M", "--from", &list, &[]).status, 64);

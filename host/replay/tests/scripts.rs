@@ -1,7 +1,7 @@
 //! Every script of this folder gives what it has to; and what is wrong with an answer, or with a script, is told.
 
 use replay::replay;
-use std::{fs, path::Path};
+use std::{fs, path::Path, process::Command};
 
 #[test]
 fn every_call_of_every_script() {
@@ -16,6 +16,15 @@ fn every_call_of_every_script() {
         calls += outcome.calls;
     }
     assert_eq!(calls, 8641, "all of them, so that none is lost");
+}
+
+/// The answers to new masters are those that masters.py puts together.
+#[test]
+fn new_masters_are_put_together() {
+    let folder = Path::new(env!("CARGO_MANIFEST_DIR"));
+    let made = Command::new("python3").arg(folder.join("masters.py")).output().unwrap();
+    assert!(made.status.success(), "{}", String::from_utf8_lossy(&made.stderr));
+    assert!(made.stdout == fs::read(folder.join("scripts/master.txt")).unwrap());
 }
 
 const MASTER: &str =
