@@ -198,7 +198,8 @@ impl Files {
         };
         match (&first.source, &second.source) {
             (Source::Line(a), Source::Line(b)) => {
-                format!("{}, lines {a} and {b}: {what}", names::file(&self.from))
+                let (first, last) = (a.min(b), a.max(b));
+                format!("{}, lines {first} and {last}: {what}", names::file(&self.from))
             }
             (Source::File(a), Source::File(b)) => {
                 format!("{} and {}: {what}", names::file(a), names::file(b))

@@ -235,9 +235,9 @@ fn what_the_library_refuses() {
         ("z: 1\nb\\x81 1\n", 12, &["line 2: /b\\x81"]),
         ("a 1\nb 2\na 3\n", 19, &["lines 1 and 3: both are /a"]),
         ("/a 1\nb 2\na 3\n", 19, &["lines 1 and 3: both are /a"]),
-        ("a/c 1\na 2\n", 19, &["lines 2 and 1: /a is a file in one, and a folder in the other"]),
+        ("a/c 1\na 2\n", 19, &["lines 1 and 2: /a is a file in one, and a folder in the other"]),
         ("a 1\na-b 1\na/c 2\n", 19, &["lines 1 and 3: /a is a file in one"]),
-        ("x/a/b/c 1\nx/a 2\n", 19, &["lines 2 and 1: /x/a is a file in one"]),
+        ("x/a/b/c 1\nx/a 2\n", 19, &["lines 1 and 2: /x/a is a file in one"]),
         (&deep, 9, &["line 1: /d/d/", "65 folders one in another, and 64 are the most"]),
         (&long, 9, &["line 1: /aaa", "the path has 1,025 bytes, and 1,024 are the most"]),
         (
