@@ -297,15 +297,17 @@ fn contents(path: &Path, wanted: &Wanted) -> Outcome<Mapping> {
     Mapping::new(&file, wanted.size as usize, Access::Read).map_err(failed)
 }
 
-/// A file that is mapped can say only by a signal that the disk is full, so that is asked before.
+/// A file that is mapped can say only by a signal that the disk is full, so that is asked before; the disk
+/// wants some of it for its own books.
 fn enough_room(out: &Path, file: &File, sizes: impl Iterator<Item = u64>) -> Outcome<()> {
     const BLOCK: u64 = 0x1000;
-    const SLACK: u64 = 0x10_0000;
-    let needed: u64 = sizes.map(|size| size.next_multiple_of(BLOCK)).sum();
+    const SLACK: u64 = 0x1_0000;
+    let files: u64 = sizes.map(|size| size.next_multiple_of(BLOCK)).sum();
+    let needed = files + files / 64 + SLACK;
     match room::left(file) {
-        Some(left) if needed + needed / 64 + SLACK > left && !disk::assumes_room() => {
+        Some(left) if needed > left && !disk::assumes_room() => {
             let text = format!(
-                "{}: the disk is full: the files take {}, and it has {} left; nothing was written",
+                "{}: the disk is full: the new image takes {}, and the disk has {} left; nothing was written",
                 names::file(out),
                 human(needed),
                 human(left)
