@@ -1,4 +1,4 @@
-/* Counter: GameCube disc images, read and edited.
+/* Counter: GameCube disc images, read, edited and made.
  *
  * The functions of libcounter.a. Each is proved to meet its contract (crates/counter), which its comment tells in words, on every
  * image, number and amount of lent memory.
@@ -25,8 +25,8 @@
  * to the table's end, or wholly from the table's end on, where it is a used region of its own. All else below the disc end is free. No edit
  * alters the program.
  *
- * words, and for edits bytes, are working memory. Whatever they held, they are zero afterwards, on refusals too. With too little the call
- * returns 9 (counter_fault and counter_report tell it):
+ * words, and for edits and a new master bytes, are working memory. Whatever they held, they are zero afterwards, on refusals too. With too
+ * little the call returns 9 (counter_fault and counter_report tell it):
  *
  *     words   4 * (n + 2) for an image with n entries (of the new table, if that has more). COUNTER_MOST_WORDS are enough for every image.
  *     bytes   as many as the new table has. No name is shared in it, so it may be larger than the table that is there: 12 for each entry,
@@ -40,7 +40,7 @@
  *     counter_free_clusters  COUNTER_CLUSTER_WORDS * (n + 1) words
  *
  * Every call that takes words opens the image first, and refuses what opening refuses (counter_fault tells it instead, and counter_report
- * writes it). Its tests, in this order: the header's fields (1),
+ * writes it; counter_master asks nothing of what the image holds). Its tests, in this order: the header's fields (1),
  * Wii magic (2), GameCube magic (3); 4; the root (5, 6, 7); more entries than COUNTER_MOST_ENTRIES (9); each further entry in turn (5, 6);
  * 8; more bytes of names than COUNTER_MOST_TEXT (9); too few words (9); a count of 0 (10); then each entry: 11, 12, 13 (not the root's), 10, a directory
  * deeper than COUNTER_MOST_LEVELS (9); then 24, for a DOL offset other than 0: the program's header passes the image, or one of its sums of
@@ -308,6 +308,26 @@ uint32_t counter_fill_file(uint8_t *image, size_t image_len, uint32_t *words, si
 /* Writes the table anew, with no name shared. */
 uint32_t counter_rewrite(uint8_t *image, size_t image_len, uint32_t *words, size_t words_len, uint8_t *bytes, size_t bytes_len,
     uint32_t record[COUNTER_RECORD_SLOTS]);
+
+/* ---- a new master */
+
+/* Writes a fresh image over what `image` holds below `disc_end`, whatever that is: the header, with the game code, the GameCube magic, FST
+ * offset 0x440, the FST size and the disc end as user size; the table at 0x440; and 0 in every other byte. Bytes at the disc end and behind
+ * it stay. It takes no record.
+ *
+ * paths are the full paths of the files, from the root, without a '/' in front, each ended by a zero byte; sizes[k] is the size of file k.
+ * They are cut at '/' alone, and rise in the order of their bytes, unsigned. The table has the files in this order, each directory just
+ * before the first file in it, and no other directory. A file that is not empty begins on a multiple of COUNTER_CLUSTER_SIZE: the first of
+ * those with the largest unused rest of its last cluster lies last, the others in this order from the first multiple at or behind the
+ * table's end. An empty file has offset 0.
+ *
+ * 8 if not exactly one path is ended for each size, or bytes are left behind the last. Then path by path: over COUNTER_MOST_PATH bytes 9; a
+ * part that is empty or unsafe 13; a part with a byte that no name has 12; not behind the path before it, or an earlier file used as a
+ * directory, 19. Then 9 for the limits of the new tree, too few words (4 * (n + 2), for its n entries), fewer bytes than its table, or an
+ * image shorter than the disc end. Then 21, exactly if header, table and files have no place below the disc end, wherever they lie. With a
+ * number other than 0 the image is as it was. */
+uint32_t counter_master(uint8_t *image, size_t image_len, uint32_t *words, size_t words_len, uint8_t *bytes, size_t bytes_len,
+    const uint8_t game_code[4], uint32_t disc_end, const uint32_t *sizes, size_t sizes_len, const uint8_t *paths, size_t paths_len);
 
 #ifdef __cplusplus
 }

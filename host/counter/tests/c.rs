@@ -133,6 +133,43 @@ int main(void)
     }
 }
 
+/// The program makes the same of the same list.
+#[test]
+fn a_master_is_made_from_c() {
+    let temp = Temp::new();
+    let text = r#"
+#include "counter.h"
+#include <stdio.h>
+#include <string.h>
+static uint8_t image[0x10001];
+static uint32_t words[COUNTER_MOST_WORDS];
+static uint8_t bytes[COUNTER_MOST_TABLE];
+int main(int argc, char **argv)
+{
+    static const uint8_t code[4] = { 'G', 'C', 'T', 'E' };
+    static const uint8_t paths[] = "a\0b\0"; /* and the one that ends the text */
+    static const uint32_t sizes[2] = { 1, 0x8000 };
+    uint32_t disc_end = argc > 1 && strcmp(argv[1], "less") == 0 ? 0x10000 : 0x10001;
+    uint32_t number;
+    memset(image, 7, sizeof image);
+    number = counter_master(image, sizeof image, words, COUNTER_MOST_WORDS, bytes, sizeof bytes, code, disc_end,
+        sizes, 2, paths, sizeof paths - 1);
+    fwrite(image, 1, sizeof image, stdout);
+    return (int)number;
+}
+"#;
+    let program = over_library(&temp.write("master.c", text.as_bytes()), &temp);
+    let made: Run = Command::new(&program).output().unwrap().into();
+    assert_eq!(made.status, 0);
+    let (list, out) = (temp.write("list", b"a 1\nb 0x8000\n"), temp.at("new.iso"));
+    let rest = ["--size", "0x10001", "--code", "GCTE", "--from", list.to_str().unwrap()];
+    done("new", &out, &rest);
+    assert!(fs::read(&out).unwrap() == made.bytes);
+    let refused: Run = Command::new(&program).arg("less").output().unwrap().into();
+    assert_eq!(refused.status, 21);
+    assert!(refused.bytes == [7; 0x1_0001]);
+}
+
 #[test]
 fn the_programs_region_is_told_from_c() {
     let temp = Temp::new();

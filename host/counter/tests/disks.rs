@@ -1,6 +1,6 @@
 //! Disks that are nearly full: ext4, XFS with a reflink copy, and btrfs on loop devices, with more and
 //! more room left. Whatever the status, the image is as it was, or as the edit makes it, or `recover`
-//! makes it so once there is room. Needs leave to mount, and the file system's mkfs; says so if not.
+//! makes it so once there is room; a new image is whole, or there is none. Needs leave to mount, and the file system's mkfs; says so if not.
 
 mod support;
 
@@ -148,6 +148,70 @@ fn a_nearly_full_btrfs_is_no_danger() {
         "0 64 8192 13000 14000 20000 0! 64! 256! 1024! 3000! 4000! 4200! 4400! 5000! 6000! 8000! 8300! 8500! 9000! 12000!",
     );
     nearly_full("btrfs", "160M", "fill", "0 64 8192 14000 20000 0! 4200! 5000! 8000! 8500! 12000!");
+}
+
+// A new master ----------------------------------------------------------------------------
+
+/// $1 folder with the folder `files` and new.iso, which it makes, $2 program; then KiB left, as above. Prints a line
+/// for each: left, status, what there is of the new image, and how many other files.
+const NEW: &str = r#"set -e
+dir=$1; counter=$2; shift 2
+truncate -s 32M "$dir/ext4.img"
+mkfs.ext4 -q -m 0 -F "$dir/ext4.img"
+mkdir "$dir/ext4"
+mount -o loop "$dir/ext4.img" "$dir/ext4"
+cd "$dir/ext4"
+for left; do
+    rm -f -- *.iso counter-new.* filler; sync
+    fill=$(($(df -k --output=avail . | tail -1) - ${left%!}))
+    until [ "$fill" -le 0 ] || fallocate -l "${fill}K" filler 2>/dev/null; do
+        fill=$((fill - 512))
+    done
+    sync
+    status=0
+    unset COUNTER_ASSUME_ROOM
+    case $left in *!) export COUNTER_ASSUME_ROOM=1 ;; esac
+    "$counter" new new.iso --size 16M --code GCTE --from-dir "$dir/files" > "$dir/said" 2>&1 || status=$?
+    sed "s/^/$left: /" "$dir/said" >&2
+    found=none
+    if [ -e new.iso ]; then
+        found=part
+        if cmp -s new.iso "$dir/new.iso"; then found=whole; fi
+    fi
+    echo "$left $status $found $(find . -type f ! -name new.iso ! -name filler | wc -l)"
+done
+cd /; umount "$dir/ext4"
+"#;
+
+#[test]
+fn a_new_master_on_a_nearly_full_ext4_is_whole_or_none() {
+    let temp = Temp::new();
+    fs::create_dir(temp.at("files")).unwrap();
+    for (k, len) in [0, 1, 0x8000, 0x40_0000, 0x1_2345].into_iter().enumerate() {
+        temp.write(&format!("files/{k}"), &clip(len, k as u32));
+    }
+    let folder = temp.at("files").to_str().unwrap().to_string();
+    let rest = ["--size", "16M", "--code", "GCTE", "--from-dir", &folder];
+    done("new", &temp.at("new.iso"), &rest);
+    let left = ["0!", "4!", "64!", "1000!", "4000!", "4200!", "8000!", "0", "4100", "4200", "8000"];
+    let mut command = Command::new("unshare");
+    command.args(["-m", "sh", "-c", NEW, "sh"]).arg(temp.at(""));
+    command.arg(env!("CARGO_BIN_EXE_counter")).args(left);
+    let Some(run) = tried(&mut command, "ext4") else {
+        return;
+    };
+    println!("left, status, image, others\n{}{}", run.out, run.err);
+    assert_eq!(run.status, 0, "{}{}", run.out, run.err);
+    assert_eq!(run.out.lines().count(), left.len());
+    for line in run.out.lines() {
+        let words: Vec<&str> = line.split(' ').collect();
+        match words[1..] {
+            ["0", "whole", "0"] => {}
+            // The folder may find no room for another name.
+            ["73" | "74", "none", "0"] => assert!(words[0] != "8000", "{line}"),
+            _ => panic!("{line}: {}", run.err),
+        }
+    }
 }
 
 // A power cut -----------------------------------------------------------------------------

@@ -8,10 +8,10 @@ use std::path::Path;
 use std::process::{Command, Stdio};
 use support::*;
 
-const COMMANDS: [&str; 23] = [
+const COMMANDS: [&str; 24] = [
     "info", "list", "tree", "free", "find", "place", "record", "cat", "extract", "dol", "map",
     "check", "compare", "hash", "report", "mkdir", "add", "move", "resize", "fill", "rewrite",
-    "maximum", "recover",
+    "maximum", "recover", "new",
 ];
 
 /// A folder with the files that the examples name.
@@ -24,6 +24,9 @@ fn fixture() -> Temp {
     done("move", &disc, &["audio/theme.adp", "0x190000"]);
     temp.write("given.txt", b"/audio/theme.adp\n");
     temp.write("msg.bin", b"the new lines");
+    temp.write("wishes.txt", b"/opening.bnr 0x1960\n/text/fr/lines.bin 4661\n");
+    fs::create_dir_all(temp.at("parts/text")).unwrap();
+    temp.write("parts/text/lines.bin", b"lines");
     temp
 }
 
@@ -83,6 +86,8 @@ fn help_comes_in_every_way_and_is_about_its_command_alone() {
         "--from",
         "--size",
         "--empty",
+        "--code",
+        "--from-dir",
     ];
     for command in COMMANDS {
         let help = run(&["help", command]).out;
@@ -101,8 +106,8 @@ fn help_comes_in_every_way_and_is_about_its_command_alone() {
         }
         assert!(usage.starts_with(&format!("  counter {command} ")), "{usage}");
         // What an edit promises is told of edits.
-        let edits = COMMANDS.iter().position(|edit| *edit == "mkdir").unwrap();
-        let edits = COMMANDS[edits..].contains(&command);
+        let at = |name| COMMANDS.iter().position(|known| *known == name).unwrap();
+        let edits = COMMANDS[at("mkdir")..at("new")].contains(&command);
         assert_eq!(help.contains("\nSafety\n"), edits, "{command}");
     }
     // After `--` it is an operand.
@@ -156,7 +161,9 @@ fn the_man_page_is_one() {
     for command in COMMANDS {
         assert!(page.out.contains(&format!(".B counter {command} ")), "{command}");
     }
-    for heading in ["NAME", "SYNOPSIS", "LOOK", "CHECK", "EDIT", "SAFETY", "EXIT STATUS", "JSON"] {
+    for heading in
+        ["NAME", "SYNOPSIS", "LOOK", "CHECK", "EDIT", "MAKE", "SAFETY", "EXIT STATUS", "JSON"]
+    {
         assert!(page.out.contains(&format!("\n.SH {heading}\n")), "{heading}");
     }
     let spawned = Command::new("groff")
@@ -221,6 +228,8 @@ fn bash_completes_commands_options_files_and_paths() {
     // A number is not completed, and no operand.
     assert_eq!(offered(&["counter", "fill", "--size", ""]), [""; 0]);
     assert_eq!(offered(&["counter", "fill", "--size", "3", "disc.iso", "/op"]), ["/opening.bnr"]);
+    assert_eq!(offered(&["counter", "new", "new.iso", "--fr"]), ["--from", "--from-dir"]);
+    assert_eq!(offered(&["counter", "new", "new.iso", "--from", "wi"]), ["wishes.txt"]);
     assert_eq!(offered(&["counter", "help", "saf"]), ["safety"]);
 }
 

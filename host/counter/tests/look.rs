@@ -959,7 +959,7 @@ fn help_documents_commands_statuses_and_safety() {
     let commands = [
         "info", "list", "tree", "free", "find", "place", "check", "extract", "cat", "dol", "map",
         "compare", "hash", "report", "mkdir", "add", "move", "resize", "fill", "rewrite",
-        "recover",
+        "recover", "new",
     ];
     for command in commands {
         assert!(run_help.out.contains(&format!("counter {command} ")), "{command}");

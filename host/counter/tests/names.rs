@@ -464,6 +464,13 @@ fn nothing_that_came_from_elsewhere_is_obeyed() {
         let other = words(&other);
         let (svg, page) = (new(".svg"), new(".html"));
         let totals = new(".totals");
+        let sized = words(&temp.write(&format!("sized{odd}"), b"/plain 1\n"));
+        let folder = temp.at(&format!("folder{odd}"));
+        fs::create_dir(&folder).unwrap();
+        fs::write(folder.join(&odd), b"").unwrap();
+        let (folder, master) = (words(&folder), new(".iso"));
+        let wish =
+            |out, from, source| vec!["new", out, "--size", "1M", "--code", "GCTE", from, source];
         // The command line, whether it is told, and how many lines standard error has.
         let lines: Vec<(Vec<&str>, bool, usize)> = vec![
             (vec![&odd], true, 1),
@@ -493,6 +500,12 @@ fn nothing_that_came_from_elsewhere_is_obeyed() {
             (vec!["rewrite", &disc, "--record", &clip], true, 1),
             (vec!["recover", &missing], true, 1),
             (vec!["maximum", &disc, &odd], true, 1),
+            (wish(&disc, "--from", &sized), true, 1),
+            (wish(&master, "--from", &missing), true, 1),
+            (wish(&master, "--from", &list), true, 1),
+            (wish(&master, "--from-dir", &missing), true, 1),
+            (wish(&master, "--from-dir", &folder), true, 1),
+            (wish(&master, "--from", &sized), true, 0),
         ];
         for (args, tells, count) in lines {
             let run = run(&args);

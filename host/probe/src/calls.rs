@@ -1,7 +1,7 @@
 //! The calls, each with everything it is lent between margins, and what it promises of them held
 //! to afterwards: working memory zero; the image as it was, unless an edit was accepted; list words
 //! past the answer, and on a refusal all slots, lists and the record, as they were; after an accepted
-//! edit the record as the image's totals have moved.
+//! edit the record as the image's totals have moved; behind the disc end of a new master all as it was.
 
 use crate::language::{Answer, Stop};
 use crate::zeros::Zeros;
@@ -57,7 +57,7 @@ pub const CLUSTERS: PerRegion = PerRegion {
     },
 };
 
-/// What a call does with the image.
+/// What a call does with the image; a new master is written as an edit is.
 #[derive(Clone, Copy, PartialEq)]
 enum Does {
     Look,
@@ -520,6 +520,35 @@ impl Lender {
         let [] = self.edit(|image, words, bytes, record, _| unsafe {
             call!(counter_rewrite(mut image, mut words, mut bytes, = record))
         })?;
+        Ok(())
+    }
+
+    // A new master --------------------------------------------------------------------------
+
+    /// It takes no record. What is accepted opens, and the bytes behind its disc end stay.
+    pub fn master(
+        &mut self,
+        disc_end: u32,
+        game_code: [u8; 4],
+        sizes: &[u32],
+        paths: &[u8],
+    ) -> Answer<()> {
+        let code = Guarded::of(&game_code);
+        let code: &[u8; 4] = code.slice().try_into().unwrap();
+        let (sizes, paths) = (Guarded::of(sizes), Guarded::of(paths));
+        let (sizes, paths) = (sizes.slice(), paths.slice());
+        let [] = self.call(Does::Edit, |lender, _: &mut [u32; 0]| {
+            let (image, words) = (lender.image.slice_mut(), lender.words.slice_mut());
+            let bytes = lender.bytes.slice_mut();
+            unsafe {
+                call!(counter_master(
+                    mut image, mut words, mut bytes, = code, = disc_end, in sizes, in paths
+                ))
+            }
+        })?;
+        let behind = disc_end as usize;
+        hold(self.image.slice().get(behind..) == self.before.get(behind..), "behind the disc end")?;
+        self.totals_afresh()?;
         Ok(())
     }
 }

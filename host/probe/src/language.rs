@@ -42,7 +42,15 @@ impl<'a> Words<'a> {
     }
 
     pub fn word(&mut self) -> Answer<u32> {
-        u32::try_from(self.number()?).map_err(|_| Stop::Usage("above 32 bits"))
+        word(self.text()?)
+    }
+
+    /// Numbers of 32 bits parted by commas; `-` stands for none.
+    pub fn list(&mut self) -> Answer<Vec<u32>> {
+        match self.text()? {
+            "-" => Ok(vec![]),
+            text => text.split(',').map(word).collect(),
+        }
     }
 
     /// Bytes in hexadecimal; `-` or nothing stands for none.
@@ -66,6 +74,10 @@ pub fn number(text: &str) -> Answer<u64> {
         None => text.parse(),
     }
     .map_err(|_| Stop::Usage("not a number"))
+}
+
+fn word(text: &str) -> Answer<u32> {
+    u32::try_from(number(text)?).map_err(|_| Stop::Usage("above 32 bits"))
 }
 
 fn size(text: &str) -> Answer<usize> {

@@ -10,7 +10,10 @@
 //!   on. Refused: what was in use, or none, stays;
 //! - `set_record USED LARGEST EDITS`: the same with these numbers, whatever the image is;
 //! - `record`: `ok USED LARGEST EDITS` of the record in use, or `ok none`;
-//! - `drop_record`: `ok`; none is in use, as at the start.
+//! - `drop_record`: `ok`; none is in use, as at the start;
+//! - `master DISC_END CODE SIZES PATHS`: `ok`; writes a new master into the current image, whatever that
+//!   holds, and keeps its length. CODE: the game code, 4 bytes. SIZES: numbers parted by commas, or `-`.
+//!   PATHS: the bytes of all paths, with the zero bytes that end them. It takes no record and alters none.
 //!
 //! Every edit hands in the record in use and keeps what comes back, from a refused call too. Where
 //! none is in use it hands in a fresh one of the image, and drops it.

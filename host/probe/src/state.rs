@@ -69,6 +69,7 @@ impl State {
             "make_record" | "set_record" | "record" | "drop_record" => self.record(command, words),
             "insert_file" | "insert_dir" | "mkdirs" | "move" | "resize" | "replace"
             | "replace_zeros" | "rewrite" => self.edit(command, words),
+            "master" => self.master(words),
             _ => self.look(command, words),
         };
         match result {
@@ -415,5 +416,16 @@ impl State {
                 "ok".into()
             }
         })
+    }
+    // A new master --------------------------------------------------------------------------
+
+    fn master(&mut self, mut words: Words) -> Answer<String> {
+        let disc_end = words.word()?;
+        let code = words.named_bytes()?;
+        let code = code.try_into().map_err(|_| Stop::Usage("a game code has 4 bytes"))?;
+        let (sizes, paths) = (words.list()?, words.named_bytes()?);
+        words.end()?;
+        self.lender.master(disc_end, code, &sizes, &paths)?;
+        Ok("ok".into())
     }
 }

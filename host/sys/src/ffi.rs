@@ -252,4 +252,19 @@ unsafe extern "C" {
         bytes_len: usize,
         record: *mut [u32; 3],
     ) -> u32;
+
+    pub fn counter_master(
+        image: *mut u8,
+        image_len: usize,
+        words: *mut u32,
+        words_len: usize,
+        bytes: *mut u8,
+        bytes_len: usize,
+        game_code: *const [u8; 4],
+        disc_end: u32,
+        sizes: *const u32,
+        sizes_len: usize,
+        paths: *const u8,
+        paths_len: usize,
+    ) -> u32;
 }

@@ -511,3 +511,22 @@ pub fn rewrite(image: &mut [u8], memory: &mut Memory, record: &mut Record) -> An
         call!(counter_rewrite(mut image, mut memory.words, mut memory.bytes, = r))
     })
 }
+
+// A new master ----------------------------------------------------------------------------
+
+/// Writes a fresh image over what `image` holds below `disc_end`: a file for each of the sizes, by the
+/// paths, each of which is ended by a zero byte.
+pub fn master(
+    image: &mut [u8],
+    memory: &mut Memory,
+    game_code: &[u8; 4],
+    disc_end: u32,
+    sizes: &[u32],
+    paths: &[u8],
+) -> Answer<()> {
+    told(unsafe {
+        call!(counter_master(
+            mut image, mut memory.words, mut memory.bytes, = game_code, = disc_end, in sizes, in paths
+        ))
+    })
+}
