@@ -75,7 +75,7 @@ pub struct Case {
     aside: Random,
     image: Vec<u8>,
     /// What opening says by the rules, however many words are lent.
-    pub opened: Result<Tree, Refusal>,
+    opened: Result<Tree, Refusal>,
     odd: Option<Class>,
     name: String,
     /// The program as it was at first: its offset and its bytes.
@@ -357,8 +357,8 @@ struct Program {
 
 #[derive(Default)]
 pub struct Batch {
-    pub probe: Vec<String>,
-    pub oracle: Vec<String>,
+    probe: Vec<String>,
+    oracle: Vec<String>,
 }
 
 impl Batch {
