@@ -40,10 +40,11 @@ pub enum Group {
     Look,
     Check,
     Edit,
+    Make,
 }
 
-pub const GROUPS: [(Group, &str); 3] =
-    [(Group::Look, "Look"), (Group::Check, "Check"), (Group::Edit, "Edit")];
+pub const GROUPS: [(Group, &str); 4] =
+    [(Group::Look, "Look"), (Group::Check, "Check"), (Group::Edit, "Edit"), (Group::Make, "Make")];
 
 /// A command: its operands, the image first, its options, and what is said about it.
 pub struct Form {
@@ -87,6 +88,7 @@ const DEST: Operand = needed(
     Value::New,
     "a new file or folder, or an empty folder; for a file also `-`: standard output (./- is a file)",
 );
+const MASTER: Operand = needed("OUT", Value::New, "the new image, a new file");
 const SVG: Operand = needed("OUT.svg", Value::New, "the picture, a new file");
 const HTML: Operand = needed("OUT.html", Value::New, "the page, a new file");
 const PLACE: Operand = needed(
@@ -111,6 +113,26 @@ const CLIP_SIZE: Flag = Flag {
     name: "--size",
     value: Some(("N", Value::Number)),
     words: "how many bytes are expected; a clip that has more or fewer is not taken (65)",
+};
+const DISC_END: Flag = Flag {
+    name: "--size",
+    value: Some(("SIZE", Value::Number)),
+    words: "how long the image is, and where its disc ends; a GameCube disc has 0x57058000",
+};
+const CODE: Flag = Flag {
+    name: "--code",
+    value: Some(("GAME", Value::Number)),
+    words: "the game code, four characters of ASCII",
+};
+const WANTED: Flag = Flag {
+    name: "--from",
+    value: Some(("LIST", Value::File)),
+    words: "the files: a text file with a path and a size a line",
+};
+const FOLDER: Flag = Flag {
+    name: "--from-dir",
+    value: Some(("DIR", Value::File)),
+    words: "the files: those of the folder DIR and of all folders in it, each with its bytes",
 };
 const EMPTY: Flag = Flag {
     name: "--empty",
@@ -471,6 +493,20 @@ pub const FORMS: &[Form] = &[
             &["counter recover disc.iso"],
         )
     },
+    Form {
+        name: "new",
+        group: Group::Make,
+        operands: &[&MASTER],
+        flags: &[&DISC_END, &CODE, &WANTED, &FOLDER, &DRY, &BYTES, &JSON],
+        words: "makes a master: a header, a table and files, each on a multiple of 0x8000, with nothing else on \
+                the disc",
+        more: NEW_MASTER,
+        examples: &[
+            "counter new new.iso --size 0x57058000 --code GCLE --from wishes.txt --dry-run",
+            "counter new new.iso --size 0x57058000 --code GCLE --from wishes.txt",
+            "counter new filled.iso --size 2M --code GCLE --from-dir files",
+        ],
+    },
 ];
 
 const FREE: &str = "\
@@ -565,6 +601,22 @@ image, or of one that was changed since, is not applied (78), and neither it nor
 An edit with --record is counted in its FILE before the journal goes. If FILE cannot be written, the image is \
 what the edit makes of it, and the journal stays (78).";
 
+const NEW_MASTER: &str = "\
+LIST is a text file in UTF-8 of at most 16 MiB and 100,000 lines. A line is a path, spaces or tabs, and a size, as \
+SIZE is written; the path may have spaces in it. Where a line has a tab, the first one ends the path. The path is cut \
+at / alone, and one / may stand before it; \\xHH is a byte as in PATH. Lines may be in any order.
+The files of a LIST are zeros, to be filled later (`counter fill`). Those of DIR have its bytes, and `counter extract \
+OUT --all` gives them back. A link or a special file in DIR is an error (66). A folder that holds no file is left out, \
+which is told: a new master has no such folders.
+Refused is an unsafe or empty part of a path (13), a byte that no name has (12), a path twice, or one that is a file \
+and a folder too (19), a path or a table past a limit (9), and what has no place below SIZE (21). The line or the file \
+is told, and how large SIZE has to be at least.
+The table has the files in the order of their paths' bytes, and so they lie on the disc, but for one that comes last: \
+the one whose last 0x8000 bytes are used least.
+OUT is made as counter-new.N in its folder, and gets its name when all of it is on the disk; nothing that is there is \
+overwritten. If anything fails, or a signal comes, nothing is left; after SIGKILL or a power cut counter-new.N may be, \
+which is of no use. What is zero takes no room on the disk. There is no program (main.dol) on it.";
+
 // The arguments ---------------------------------------------------------------------------
 
 pub struct Args {
@@ -587,13 +639,16 @@ pub struct Args {
     pub paths: bool,
     /// An empty clip is meant.
     pub empty: bool,
-    /// How many bytes a clip is to have.
+    /// How many bytes a clip is to have, or a new master.
     pub size: Option<u32>,
+    /// The game code of a new master, and the folder with its files.
+    pub code: Option<OsString>,
+    pub folder: Option<PathBuf>,
     /// Names are the image's bytes.
     pub raw: bool,
     demo: bool,
     pub given: Vec<PathBuf>,
-    /// The other image, and behind a `:` a path in it.
+    /// The other image, and behind a `:` a path in it; or the list of a new master's files.
     pub from: Option<PathBuf>,
     pub record: Option<PathBuf>,
     pub out: Option<PathBuf>,
@@ -620,11 +675,18 @@ impl Args {
         self.all && self.form.operands.iter().any(|operand| operand.value == Value::Entry)
     }
 
+    /// Whether --from stands in the place of CLIP.
+    fn takes_from(&self) -> bool {
+        self.from.is_some() && self.form.operands.iter().any(|operand| operand.name == "CLIP")
+    }
+
     /// The files and folders that it is to make.
     pub fn made(&self) -> Vec<&Path> {
         let behind = self.form.operands.iter().skip(1);
         let new = behind.zip(&self.operands).filter(|(operand, _)| operand.value == Value::New);
-        let options = [&self.out, &self.map].into_iter().flatten().map(PathBuf::as_path);
+        let image = self.image.as_ref().filter(|_| self.form.group == Group::Make);
+        let options = [&self.out, &self.map].into_iter().flatten().chain(image);
+        let options = options.map(PathBuf::as_path);
         new.map(|(_, path)| Path::new(path)).chain(options).collect()
     }
 
@@ -653,6 +715,8 @@ impl Args {
             paths: false,
             empty: false,
             size: None,
+            code: None,
+            folder: None,
             raw: false,
             demo: false,
             given: Vec::new(),
@@ -726,6 +790,10 @@ impl Args {
                 self.size = Some(number(&given).map_err(Failure::usage)?);
             }
             "--empty" => self.empty = true,
+            "--code" if self.code.is_some() => return Err(twice()),
+            "--code" => self.code = Some(given("a game code")?),
+            "--from-dir" if self.folder.is_some() => return Err(twice()),
+            "--from-dir" => self.folder = Some(file()?),
             "--map" => self.map = Some(file()?),
             _ => self.out = Some(file()?),
         }
@@ -734,10 +802,8 @@ impl Args {
 
     /// Takes the image from the operands, and holds their number to the command's.
     fn place_operands(&mut self, bare: bool) -> Outcome<()> {
-        let left_out = [self.takes_all(), self.demo, self.from.is_some()]
-            .map(usize::from)
-            .iter()
-            .sum::<usize>();
+        let left_out =
+            [self.takes_all(), self.demo, self.takes_from()].map(usize::from).iter().sum::<usize>();
         let most = self.form.operands.len() - left_out;
         let least = self.form.operands.iter().filter(|operand| operand.needed).count() - left_out;
         let got = self.operands.len();
@@ -779,6 +845,7 @@ impl Form {
                 ("extract", "PATH") => "PATH|--all",
                 ("map", "IMAGE") => "IMAGE|--demo",
                 ("fill", "CLIP") => "CLIP|--from OTHER[:PATH]",
+                ("new", "OUT") => "OUT --size SIZE --code GAME --from LIST|--from-dir DIR",
                 (_, name) => name,
             };
             out.push_str(&match operand.needed {
@@ -789,7 +856,8 @@ impl Form {
         // Those that stand in the place of an operand are told there.
         let told = |name: &str| match name {
             "--all" => self.name == "extract",
-            name => ["--demo", "--from"].contains(&name),
+            "--size" => self.name == "new",
+            name => ["--demo", "--from", "--from-dir", "--code"].contains(&name),
         };
         for flag in self.flags.iter().filter(|flag| !told(flag.name)) {
             out.push_str(&match flag.value {

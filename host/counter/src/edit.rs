@@ -15,7 +15,7 @@ use crate::out::say;
 use crate::progress::Progress;
 use crate::recover::{How, finish, given_up, put_right, still_there, stuck, unrecorded};
 use crate::text::human;
-use crate::told::report;
+use crate::told::{dry, report};
 use crate::trial::{Trial, try_out};
 use crate::{edited, kept, record, redo, room, signals};
 use counter_sys as counter;
@@ -54,13 +54,6 @@ pub fn edit(args: &Args) -> Outcome<()> {
     enough_room(&image, &trial.change)?;
     carry_out(args, &wish, &call, &mut image, &mut desk, trial, totals)?;
     finish(&done("written and synced"))
-}
-
-/// What a dry run says.
-fn dry(text: &[u8]) -> Vec<u8> {
-    let last = &b"all this would be done; nothing was written\n"[..];
-    let lines = text.split_inclusive(|&b| b == b'\n').chain([last]);
-    lines.flat_map(|line| [b"dry run: ", line].concat()).collect()
 }
 
 /// The image stays as it is, and the edit counts.

@@ -1,18 +1,12 @@
 //! The list of what may differ: a text file, one path a line, or one field of the header.
 
-use crate::failure::{DATA, Failure, Outcome};
+use crate::failure::Outcome;
 use crate::header::Field;
-use crate::image::cannot_open;
+use crate::lines;
 use crate::names;
 use crate::units;
 use std::collections::HashSet;
-use std::fs::File;
-use std::io::Read;
 use std::path::{Path, PathBuf};
-
-/// Most bytes of a list: those of 16,384 paths, the longest that there are.
-const LONGEST: u64 = 16 << 20;
-const MOST_LINES: usize = 100_000;
 
 /// The paths that may differ.
 #[derive(Default)]
@@ -40,36 +34,12 @@ impl Given {
     }
 
     fn add(&mut self, list: &Path) -> Outcome<()> {
-        let mut bytes = Vec::new();
-        File::open(list)
-            .and_then(|file| file.take(LONGEST + 1).read_to_end(&mut bytes))
-            .map_err(|e| cannot_open(list, &e))?;
-        let name = names::file(list);
-        if bytes.len() as u64 > LONGEST {
-            let text = format!("{name}: no list has more than 16 MiB");
-            return Err(Failure::error(DATA, text));
-        }
-        if bytes.starts_with(&[0xFF, 0xFE]) || bytes.starts_with(&[0xFE, 0xFF]) {
-            return Err(Failure::error(DATA, format!("{name}: UTF-16; the list has to be UTF-8")));
-        }
-        // In Shift-JIS these three bytes begin a name.
-        let text = bytes.strip_prefix(b"\xEF\xBB\xBF").filter(|_| !names::are_raw());
-        let lines = text.unwrap_or(&bytes).split(|&b| b == b'\n');
-        for (i, line) in lines.enumerate() {
-            let line = line.strip_suffix(b"\r").unwrap_or(line);
-            if i >= MOST_LINES {
-                let text = format!("{name}: no list has more than 100,000 lines");
-                return Err(Failure::error(DATA, text));
-            }
-            if !line.is_empty() {
-                let taken = match of_header(line) {
-                    Some(field) => self.field(field),
-                    None => names::read(line).and_then(|path| self.line(&path)),
-                };
-                taken.map_err(|why| {
-                    Failure::error(DATA, format!("{name}, line {}: {why}", i + 1))
-                })?;
-            }
+        for (number, line) in lines::read(list)? {
+            let taken = match of_header(&line) {
+                Some(field) => self.field(field),
+                None => names::read(&line).and_then(|path| self.line(&path)),
+            };
+            taken.map_err(|why| lines::wrong(list, number, &why))?;
         }
         Ok(())
     }

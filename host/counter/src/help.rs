@@ -7,7 +7,7 @@ use std::fmt::Write;
 pub const USAGE: &str = "usage: counter COMMAND IMAGE ...   (`counter help` has the commands)\n";
 
 /// What the command is for, in one line.
-pub const PURPOSE: &str = "GameCube disc images, looked at, edited and compared";
+pub const PURPOSE: &str = "GameCube disc images, looked at, edited, compared and made";
 
 /// What `help` knows besides the commands.
 pub const SUBJECTS: [(&str, &str); 5] = [
@@ -244,6 +244,11 @@ const FIELDS: &[(&str, &str)] = &[
         "status edit finished written out record{used free largest_free edits}; finished: the edit that was \
          cut, or null; out: the FILE of its --record, where it was written, or null; record: as it is after that edit, or null (maximum has none)",
     ),
+    (
+        "new",
+        "status out dry_run written size game_code fst_size used free largest_free files[path path_bytes offset \
+         size] left_out[folder] notes[...]; left_out: folders of DIR that hold no file",
+    ),
 ];
 
 const COMPARED: &str = "status before after manifest manifest_sum before_sum after_sum passed cut[name] \
@@ -397,8 +402,10 @@ fn statuses() -> String {
          \x20     a command that shows every path: more than 64 MiB of them;\n\
          \x20     --record: a FILE that is torn or no record, or whose used bytes or largest free region\n\
          \x20     are not the image's;\n\
-         \x20     fill: a clip of no bytes without --empty, or of other than --size bytes\n\
-         \x20 66  no such image or clip, or a folder in its place, or a special file in the image's\n\
+         \x20     fill: a clip of no bytes without --empty, or of other than --size bytes;\n\
+         \x20     new: a LIST that is wrong, or a name in DIR that an image cannot have\n\
+         \x20 66  no such image or clip, or a folder in its place, or a special file in the image's;\n\
+         \x20     new: no such LIST or DIR, or a link or a special file in DIR\n\
          \x20 70  the library answered what it never should\n\
          \x20 73  an output, a journal, a clip that is kept or a record cannot be created, or is there already;\n\
          \x20     extract: two entries would be one file, or a name has too many bytes for a file\n\

@@ -1,4 +1,4 @@
-//! An image: a file that is locked and mapped, or the built-in small master.
+//! An image: a file that is locked and mapped, one in memory alone, or the built-in small master.
 
 use crate::disk::{self, On};
 use crate::failure::{BUSY, CUT, Failure, INPUT_OUTPUT, NO_INPUT, NOT_ALLOWED, Outcome};
@@ -22,6 +22,7 @@ const SMALL_MASTER: &[u8; 0x2000] = include_bytes!("../../../crates/list/stdin")
 
 enum Bytes {
     Mapped { file: File, mapping: Mapping },
+    Blank(Mapping),
     BuiltIn(Vec<u8>),
 }
 
@@ -68,6 +69,20 @@ impl Image {
         Image::map(path, Access::Shared)
     }
 
+    /// An image of zeros in memory. What is written behind the first `kept` bytes takes none, and is lost.
+    pub fn blank(path: &Path, len: usize, kept: usize) -> Outcome<Image> {
+        let made = Mapping::blank(len)
+            .and_then(|mut mapping| mapping.stand_in(&[kept.min(len)..len]).map(|()| mapping));
+        let mapping = made.map_err(|e| Failure::file(INPUT_OUTPUT, path, &e))?;
+        Ok(Image { name: names::file(path), path: None, bytes: Bytes::Blank(mapping) })
+    }
+
+    /// A new file that nobody else knows yet, to be written to.
+    pub fn fresh(path: &Path, file: File) -> Outcome<Image> {
+        let mapping = mapped(path, &file, Access::Shared)?;
+        Ok(Image { name: names::file(path), path: None, bytes: Bytes::Mapped { file, mapping } })
+    }
+
     fn map(path: &Path, access: Access) -> Outcome<Image> {
         let file = open(path, access)?;
         not_the_output(path, &file)?;
@@ -103,14 +118,14 @@ impl Image {
 
     pub fn bytes(&self) -> &[u8] {
         match &self.bytes {
-            Bytes::Mapped { mapping, .. } => mapping.bytes(),
+            Bytes::Mapped { mapping, .. } | Bytes::Blank(mapping) => mapping.bytes(),
             Bytes::BuiltIn(bytes) => bytes,
         }
     }
 
     pub fn bytes_mut(&mut self) -> &mut [u8] {
         match &mut self.bytes {
-            Bytes::Mapped { mapping, .. } => mapping.bytes_mut(),
+            Bytes::Mapped { mapping, .. } | Bytes::Blank(mapping) => mapping.bytes_mut(),
             Bytes::BuiltIn(bytes) => bytes,
         }
     }
@@ -118,7 +133,7 @@ impl Image {
     pub fn file(&self) -> Option<&File> {
         match &self.bytes {
             Bytes::Mapped { file, .. } => Some(file),
-            Bytes::BuiltIn(_) => None,
+            Bytes::Blank(_) | Bytes::BuiltIn(_) => None,
         }
     }
 

@@ -1,4 +1,4 @@
-//! `counter`: looks at GameCube disc images, edits them and compares them, over libcounter.a.
+//! `counter`: looks at GameCube disc images, edits them, compares them and makes them, over libcounter.a.
 //!
 //! No module knows one that knows it, not even in a round (tests/layers.rs).
 
@@ -31,7 +31,9 @@ mod journal;
 mod json;
 mod kept;
 mod layout;
+mod lines;
 mod look;
+mod make;
 mod manifest;
 mod map;
 mod maximum;
@@ -58,6 +60,7 @@ mod trial;
 mod trouble;
 mod units;
 mod version;
+mod wanted;
 
 use args::{Args, FORMS, Form};
 use cause::cause;
@@ -154,6 +157,7 @@ fn run(args: Args) -> Outcome<u8> {
         "compare" => return compare::compare(&args),
         "report" => return report::report(&args),
         "recover" => recover::recover(&args)?,
+        "new" => make::new(&args)?,
         _ => edit::edit(&args)?,
     }
     Ok(0)

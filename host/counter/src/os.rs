@@ -104,6 +104,12 @@ impl Mapping {
         Mapping::of(-1, len, Access::Read, PROT_READ, flags)
     }
 
+    /// Zeros to be written to, which take memory where that is done.
+    pub fn blank(len: usize) -> io::Result<Mapping> {
+        let flags = MAP_PRIVATE | MAP_ANONYMOUS | MAP_NORESERVE;
+        Mapping::of(-1, len, Access::Private, PROT_READ | PROT_WRITE, flags)
+    }
+
     fn of(fd: i32, len: usize, access: Access, prot: i32, flags: i32) -> io::Result<Mapping> {
         if len == 0 {
             return Ok(Mapping { start: ptr::null_mut(), len, access, relief: None });

@@ -82,6 +82,9 @@ static LEFT: AtomicU64 = AtomicU64::new(0);
 
 const CUT_READING: &[u8] =
     b"counter: input/output error: the image could not be read to its end (did it shrink?)\n";
+const CUT_MAKING: &[u8] =
+    b"counter: input/output error: what is read became shorter, or the disk failed or is full; nothing is left \
+      of the new file\n";
 const CUT_WRITING: &[u8] =
     b"counter: the disk failed or is full in the midst of the edit; it is now finished from the journal\n";
 const CUT_FOR_GOOD: &[u8] =
@@ -184,8 +187,16 @@ extern "C" fn cut_off(_: i32) {
         FREE | GIVEN_UP => !rescue.is_null(),
         _ => true,
     };
-    let text = if writing { CUT_WRITING } else { CUT_READING };
+    let unfinished = UNFINISHED.load(Ordering::SeqCst);
+    let text = match (writing, unfinished.is_null()) {
+        (true, _) => CUT_WRITING,
+        (false, true) => CUT_READING,
+        (false, false) => CUT_MAKING,
+    };
     unsafe {
+        if !writing && !unfinished.is_null() {
+            unlink(unfinished);
+        }
         write(2, text.as_ptr(), text.len());
         if !writing {
             _exit(INPUT_OUTPUT.into())

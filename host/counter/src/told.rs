@@ -57,6 +57,13 @@ pub fn report(wish: &Wish, call: &Call, before: &Disc, trial: &Trial) -> Vec<u8>
     out
 }
 
+/// What a dry run says.
+pub fn dry(text: &[u8]) -> Vec<u8> {
+    let last = &b"all this would be done; nothing was written\n"[..];
+    let lines = text.split_inclusive(|&b| b == b'\n').chain([last]);
+    lines.flat_map(|line| [b"dry run: ", line].concat()).collect()
+}
+
 /// Another maximum, and the table held against it.
 fn stated(out: &mut Vec<u8>, change: Option<(u32, u32)>, maximum: &Maximum) {
     let bytes = |stated: u32| match stated {
@@ -114,12 +121,16 @@ pub fn notes(
         let notes = places(to, trial.after.opened.disc_end);
         return notes.into_iter().map(String::into_bytes).collect();
     }
-    let new = new_entries(call, before, trial);
-    if new.is_empty() || !trial.after.has_paths() {
+    of_new(&new_entries(call, before, trial), &trial.after, spell)
+}
+
+/// What there is to know of new entries, none of which is the root.
+pub fn of_new(new: &[&Node], after: &Disc, spell: fn(&[u8]) -> Vec<u8>) -> Vec<Vec<u8>> {
+    if new.is_empty() || !after.has_paths() {
         return Vec::new();
     }
     let long = new.iter().flat_map(|node| too_long(node, spell));
-    long.chain(without_case(&new, &trial.after, spell)).collect()
+    long.chain(without_case(new, after, spell)).collect()
 }
 
 /// Places that the rules allow and other programs stumble over (host/PEERS.md).

@@ -1,7 +1,7 @@
 //! The probe on the small master: its listing, P1 to P12, every refusal number once,
 //! free regions in clusters, a program behind the table or before it, lists of edits, files filled
-//! from given bytes, records, the stated table maximum, and calls with too little memory or too short
-//! a list.
+//! from given bytes, records, the stated table maximum, new masters, and calls with too little memory
+//! or too short a list.
 //! `dirty` is never an answer.
 
 use std::io::{Read, Write};
@@ -391,6 +391,16 @@ fn usage() {
         ("drop_record 4294967296", "usage too many words"),
         ("drop", "usage no such command"),
         ("rewrite 1", "usage too many words"),
+        ("master 0x44c 47434c45 -", "usage a word is missing"),
+        ("master 0x44c 47434c45 - - -", "usage too many words"),
+        ("master 0x44c 47434c - -", "usage a game code has 4 bytes"),
+        ("master 0x44c 47434c4500 - -", "usage a game code has 4 bytes"),
+        ("master 0x44c - - -", "usage a game code has 4 bytes"),
+        ("master 4294967296 47434c45 - -", "usage above 32 bits"),
+        ("master 0x44c 47434c45 1,4294967296 -", "usage above 32 bits"),
+        ("master 0x44c 47434c45 1, -", "usage not a number"),
+        ("master 0x44c 47434c45 1,,2 -", "usage not a number"),
+        ("master 0x44c 47434c45 - 0", "usage odd hexadecimal"),
     ];
     commands.extend(wrong.map(|(line, _)| line.into()));
     commands.extend(["hash", "record", "rewrite", "clusters"].map(String::from));
@@ -924,7 +934,7 @@ fn never_dirty() {
                 3 => Some(format!("set_record {} 0 {}", u32::MAX - random(300) as u32, random(9))),
                 _ => None,
             });
-            commands.push(match random(18) {
+            commands.push(match random(19) {
                 0 => format!("move {entry} {at}"),
                 1 => format!("resize {entry} {len}"),
                 2 => "rewrite".into(),
@@ -943,9 +953,52 @@ fn never_dirty() {
                 }
                 15 => format!("replace_zeros {entry} {}", len << random(24)),
                 16 => format!("patch 0x42f {:02x}", random(100)),
+                17 => {
+                    let (a, b) = (random(256), random(256));
+                    format!(
+                        "master {} 47434c45 {},0 {a:02x}00{b:02x}00",
+                        len << random(8),
+                        len >> 9
+                    )
+                }
                 _ => format!("patch {} {:02x}", 0x420 + random(0x44), random(4)),
             });
         }
     }
     answers(&commands);
+}
+
+/// The current image is the buffer, whatever it holds, and keeps its length; a record is left alone.
+#[test]
+fn new_masters() {
+    let listing =
+        "total 65537 used 33897\nd 0 0 3 /\nf 1 65536 1 /a\nf 2 32768 32768 /b\nr 1128 31640\n";
+    let listing = format!("ok {}", hex(listing.as_bytes()));
+    let two = "master 0x10001 47434c45 1,0x8000 61006200";
+    hold(&[
+        (&[two], "err 9"),
+        (&["size 0x10001", two], "ok"),
+        (&["size 0x10001", two, "listing"], &listing),
+        (&["size 0x10001", two, "peek 0 4"], "ok 47434c45"),
+        (&["size 0x10001", "master 0x10000 47434c45 1,0x8000 61006200"], "err 21"),
+        (&["size 0x10001", "master 0x10000 47434c45 1,0x8000 61006200", "used"], "ok 1370"),
+        (&["size 4", "patch 0 ffffffff", two, "peek 0 4"], "ok ffffffff"),
+        (&["size 0", "size 0x10002", "patch 0x10001 ff", two, "peek 0x10000 2"], "ok 00ff"),
+        (&["master 0x44b 47434c45 - -"], "err 21"),
+        (&["master 0x44c 47434c45 - -"], "ok"),
+        (&["master 0x44c 47434c45 - -", "free"], "ok"),
+        (&["master 0x44d 47434c45 - -", "free"], "ok 1100:1"),
+        (&["master 0x2000 47434c45 1 -"], "err 8"),
+        (&["master 0x2000 47434c45 - 00"], "err 8"),
+        (&["lend 0 0", "master 0x2000 47434c45 1 2e00"], "err 13"),
+        (&["lend 0 0", "master 0x2000 47434c45 0 6100"], "err 9"),
+        (&["lend 16 26", "master 0x2000 47434c45 0 6100"], "ok"),
+        (&["lend 15 26", "master 0x2000 47434c45 0 6100"], "err 9"),
+        (&["lend 16 25", "master 0x2000 47434c45 0 6100"], "err 9"),
+        (&["lend 16 26", "lend_list 0", "master 0x2000 47434c45 0 6100"], "ok"),
+        (&["set_record 5 6 7", "master 0x2000 47434c45 0 6100", "record"], "ok 5 6 7"),
+        (&["set_record 5 6 7", "master 0x2000 47434c45 1 6100", "record"], "ok 5 6 7"),
+        (&["make_record", "master 0x2000 47434c45 0 6100", "record"], "ok 1370 6656 0"),
+        (&["master 0x2000 47434c45 0 6100", "make_record"], "ok 1114 7078 0"),
+    ]);
 }

@@ -152,8 +152,13 @@ impl Stage {
     pub fn call(&mut self, line: &Part) -> Result<Given, String> {
         let name = line.words[0].as_str();
         let numbers = line.numbers(1)?;
-        let clip_in_short = name == "fill_file" && numbers.len() == 3;
-        holds(numbers.len() == arity(name) || clip_in_short, "a number too many or too few")?;
+        let right = match name {
+            "fill_file" => [1, 3].contains(&numbers.len()),
+            // The sizes of the files stand behind its two.
+            "master" => numbers.len() >= 2,
+            _ => numbers.len() == arity(name),
+        };
+        holds(right, "a number too many or too few")?;
         let mut lent = Lent::of(self);
         let given = match name {
             "seek_start" | "seek_current" | "seek_end" | "read" => {
@@ -164,6 +169,7 @@ impl Stage {
                 self.edit(name, words(&numbers)?, &line.text, &mut lent)?
             }
             "fill_file" | "fill_zeros" => self.fill_file(name, &numbers, &line.text, &mut lent)?,
+            "master" => self.master(&numbers, &line.text, &mut lent)?,
             _ => self.look(name, words(&numbers)?, &line.text, &mut lent)?,
         };
         holds(lent.margins_stay(), "something beside what was lent was written")?;
@@ -252,6 +258,31 @@ impl Stage {
         let given = self.edit("fill_file", target, lent.slice(), l)?;
         holds(lent.margins_stay() && lent.slice() == clip, "the clip was written to")?;
         Ok(given)
+    }
+
+    /// The numbers are the disc end, the game code and the sizes; the text is the paths, with the zero bytes
+    /// that end them.
+    fn master(&mut self, numbers: &[u64], paths: &[u8], l: &mut Lent) -> Result<Given, String> {
+        let numbers = numbers.iter().map(|number| word(*number)).collect::<Result<Vec<_>, _>>()?;
+        let (disc_end, game_code) = (numbers[0], numbers[1].to_be_bytes());
+        let (sizes, paths) = (Guarded::of(&numbers[2..]), Guarded::of(paths));
+        let (sizes, paths) = (sizes.slice(), paths.slice());
+        let (image, words, bytes) = (l.image.slice_mut(), l.words.slice_mut(), l.bytes.slice_mut());
+        let mut given = slots::<u32, 0>(|_| unsafe {
+            call!(counter_master(
+                mut image, mut words, mut bytes, = &game_code, = disc_end, in sizes, in paths
+            ))
+        })?;
+        holds(l.words.is_zero() && l.bytes.is_zero(), "working memory is not zero")?;
+        holds(given[0] == 0 || l.image.slice() == self.image, "a refusal changed the image")?;
+        let end = disc_end as usize;
+        holds(
+            l.image.slice().get(end..) == self.image.get(end..),
+            "bytes behind the disc end were written",
+        )?;
+        self.image.copy_from_slice(l.image.slice());
+        given.push(checksum(&self.image));
+        Ok(Given { numbers: given, text: vec![] })
     }
 
     fn look(
@@ -387,8 +418,12 @@ fn arity(name: &str) -> usize {
 /// The numbers, each of 32 bits; 0 where a call takes fewer.
 fn words(numbers: &[u64]) -> Result<[u32; 2], String> {
     let mut words = [0; 2];
-    for (word, number) in words.iter_mut().zip(numbers) {
-        *word = u32::try_from(*number).map_err(|_| format!("{number} has more than 32 bits"))?;
+    for (place, number) in words.iter_mut().zip(numbers) {
+        *place = word(*number)?;
     }
     Ok(words)
+}
+
+fn word(number: u64) -> Result<u32, String> {
+    u32::try_from(number).map_err(|_| format!("{number} has more than 32 bits"))
 }

@@ -15,7 +15,7 @@ fn every_call_of_every_script() {
         assert!(outcome.differ.is_empty(), "{}", outcome.differ.join("\n"));
         calls += outcome.calls;
     }
-    assert_eq!(calls, 8526, "all of them, so that none is lost");
+    assert_eq!(calls, 8641, "all of them, so that none is lost");
 }
 
 const MASTER: &str =
@@ -55,6 +55,10 @@ fn right_answers_of_the_small_master() {
         "patch 0x42c :0000001a\nrewrite = 0 0x5b12f8ccc73eb054",
         "patch 0x42c :00000019\nrewrite = 26 0x7b45e1b0436abd75",
         "patch 0x42c :0000001a\ninsert_file 0 \"b\" = 26 0x5b12f8ccc73eb054",
+        // A new master, refused, and with no files.
+        "master 0x44b 0 = 21 0x203a64a4776abcd2",
+        "record 5 6 7\nmaster 0x2000 0 1 \"a\" = 8 0x203a64a4776abcd2",
+        "master 0x44c 0x47434c45 = 0 0xd5219a723b1c27a8",
         "list 0x46 = 0 0x46 \"total 8192 used 1370\nd 0 0 2 /\nf 1 1280 256 /a\nr 1114 166\nr 1536 6656\n\"",
     ] {
         assert_eq!(of(line), [""; 0], "{line}");
@@ -88,6 +92,15 @@ fn a_wrong_answer_is_told() {
         (
             "record 5 6 7\nrewrite = 0 0x203a64a4776abcd2 5 6 8",
             "s:8: rewrite: gave 0x0 0x203a64a4776abcd2 0x5 0x1a00 0x8, has to give 0x0 0x203a64a4776abcd2 0x5 0x6 0x8",
+        ),
+        ("master 0x2000 = 0", "s:7: master 0x2000: a number too many or too few"),
+        (
+            "master 0x2000 0x100000000 = 0",
+            "s:7: master 0x2000 0x100000000: 4294967296 has more than 32 bits",
+        ),
+        (
+            "master 0x44b 0 = 0",
+            "s:7: master 0x44b 0: gave 0x15 0x203a64a4776abcd2, has to give 0x0",
         ),
         ("make_record 1 = 0", "s:7: make_record 1: a number too many or too few"),
         ("rewrite = 0 1", "s:7: rewrite: gave 0x0 0x203a64a4776abcd2, has to give 0x0 0x1"),

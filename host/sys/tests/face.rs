@@ -489,3 +489,57 @@ fn an_empty_image() {
     assert_eq!(*r, Record { used: 7, largest: 8, edits: 9 });
     assert_eq!((words, bytes), ([0; 2], [0; 2]));
 }
+
+/// A master with these files of no bytes, in a buffer of `room` bytes that are not zero, all of it disc; with as many
+/// words and bytes as a tree of so many entries with so long texts wants.
+fn master_of(paths: &[u8], files: usize, entries: usize, texts: usize) -> Result<Vec<u8>, u32> {
+    let (mut words, mut bytes) = (vec![9; 4 * (entries + 2)], vec![9; 12 * entries + texts]);
+    let mut image = vec![9; 0x440 + bytes.len()];
+    let (disc_end, sizes) = (image.len() as u32, vec![0; files]);
+    let memory = &mut Memory { words: &mut words, bytes: &mut bytes };
+    let made = counter_sys::master(&mut image, memory, b"GAME", disc_end, &sizes, paths);
+    assert!(words.iter().all(|word| *word == 0) && bytes.iter().all(|byte| *byte == 0));
+    assert!(made.is_ok() || image.iter().all(|byte| *byte == 9));
+    made.map(|()| image)
+}
+
+/// The paths of so many files in the root, rising, with names of so many bytes.
+fn flat(files: usize, len: usize) -> Vec<u8> {
+    (0..files).flat_map(|k| format!("{k:0len$}\0").into_bytes()).collect()
+}
+
+/// 16,384 entries with the root, 1,048,576 bytes of texts; one more of either is 9, with memory for it too.
+#[test]
+fn a_new_master_at_its_limits() {
+    let made = master_of(&flat(16_383, 5), 16_383, 16_384, 6 * 16_383).unwrap();
+    let (mut words, mut bytes) = (vec![9; counter_sys::MOST_WORDS], [9; 0]);
+    let m = &mut Memory { words: &mut words, bytes: &mut bytes };
+    assert_eq!(counter_sys::open(&made, m).unwrap().entries, 16_384);
+    let last = Entry::File { number: 16_383, offset: 0, size: 0 };
+    assert_eq!(counter_sys::lookup(&made, m, 0, b"16382"), Ok(last));
+    assert_eq!(master_of(&flat(16_384, 5), 16_384, 16_385, 6 * 16_384), Err(9));
+
+    let texts = counter_sys::MOST_TEXT;
+    let made = master_of(&flat(1024, 1023), 1024, 1025, texts).unwrap();
+    assert_eq!(counter_sys::open(&made, m).unwrap().fst_size as usize, 12 * 1025 + texts);
+    let more = [&flat(1023, 1023)[..], &[b'a'; 1024], &[0]].concat();
+    assert_eq!(master_of(&more, 1024, 1025, texts + 1), Err(9));
+}
+
+/// Whatever the table's size, the files begin on the first multiple of 0x8000 behind it.
+#[test]
+fn a_new_master_whose_table_passes_a_cluster() {
+    // 1,000 names of 20 bytes: the table ends at 0x440 + 12 * 1001 + 21 * 1000 = 34,100.
+    let paths = flat(1000, 20);
+    let mut sizes = vec![0; 1000];
+    sizes[7] = 1;
+    let mut image = vec![9; 0x1_0001];
+    let (mut words, mut bytes) = (vec![9; 4 * 1003], vec![9; 12 * 1001 + 21 * 1000]);
+    let m = &mut Memory { words: &mut words, bytes: &mut bytes };
+    let mut make = |disc_end| counter_sys::master(&mut image, m, b"GAME", disc_end, &sizes, &paths);
+    assert_eq!(make(0x1_0000), Err(21));
+    assert_eq!(make(0x1_0001), Ok(()));
+    let seventh = Entry::File { number: 8, offset: 0x1_0000, size: 1 };
+    assert_eq!(counter_sys::entry_at(&image, m, 8), Ok(seventh));
+    assert_eq!((&image[..4], &image[0x1_0000..]), (&b"GAME"[..], &[0][..]));
+}

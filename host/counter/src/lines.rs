@@ -1,0 +1,45 @@
+//! The lines of a list that the user wrote: a text file in UTF-8, or with --bytes in the image's bytes.
+
+use crate::failure::{DATA, Failure, Outcome};
+use crate::image::cannot_open;
+use crate::names;
+use std::fs::File;
+use std::io::Read;
+use std::path::Path;
+
+/// Most bytes of a list: those of 16,384 paths, the longest that there are.
+const LONGEST: u64 = 16 << 20;
+const MOST_LINES: usize = 100_000;
+
+/// Each line that is not empty, with its number, from 1 on.
+pub fn read(list: &Path) -> Outcome<Vec<(usize, Vec<u8>)>> {
+    let mut bytes = Vec::new();
+    File::open(list)
+        .and_then(|file| file.take(LONGEST + 1).read_to_end(&mut bytes))
+        .map_err(|e| cannot_open(list, &e))?;
+    let wrong = |why: &str| Err(Failure::error(DATA, format!("{}{why}", names::file(list))));
+    if bytes.len() as u64 > LONGEST {
+        return wrong(": no list has more than 16 MiB");
+    }
+    if bytes.starts_with(&[0xFF, 0xFE]) || bytes.starts_with(&[0xFE, 0xFF]) {
+        return wrong(": UTF-16; the list has to be UTF-8");
+    }
+    // In Shift-JIS these three bytes begin a name.
+    let text = bytes.strip_prefix(b"\xEF\xBB\xBF").filter(|_| !names::are_raw());
+    let mut lines = Vec::new();
+    for (i, line) in text.unwrap_or(&bytes).split(|&b| b == b'\n').enumerate() {
+        if i >= MOST_LINES {
+            return wrong(": no list has more than 100,000 lines");
+        }
+        let line = line.strip_suffix(b"\r").unwrap_or(line);
+        if !line.is_empty() {
+            lines.push((i + 1, line.to_vec()));
+        }
+    }
+    Ok(lines)
+}
+
+/// What is wrong with a line.
+pub fn wrong(list: &Path, line: usize, why: &str) -> Failure {
+    Failure::error(DATA, format!("{}, line {line}: {why}", names::file(list)))
+}

@@ -1,0 +1,312 @@
+//! `new`: a master from a list of files, or from a folder. The library makes it in memory; header and table go
+//! to a new file, and what is zero stays a hole in it. A folder's files are then filled in by the library, and
+//! the file gets its name when all of it is on the disk.
+
+use crate::args::Args;
+use crate::disc::{Disc, Kind, Node, not_opened, table_end};
+use crate::disk::{self, On};
+use crate::failure::{CANNOT_CREATE, DATA, Failure, INPUT_OUTPUT, INTERNAL, Outcome};
+use crate::image::{Desk, Image, cannot_open};
+use crate::json::{self, Json};
+use crate::names::{self, shown};
+use crate::os::{self, Access, Mapping};
+use crate::out::say;
+use crate::progress::Progress;
+use crate::recover::finish;
+use crate::room;
+use crate::save::vacant;
+use crate::signals;
+use crate::text::{counted, grouped, human};
+use crate::told::{dry, of_new};
+use crate::wanted::{Files, Source, Wanted};
+use counter_sys::{self as counter, HEADER_SIZE, MOST_TABLE};
+use std::ffi::OsStr;
+use std::fs::{self, File};
+use std::io::{self, ErrorKind};
+use std::os::unix::ffi::OsStrExt;
+use std::path::{Path, PathBuf};
+use std::process;
+
+/// What is asked for.
+struct Wish<'a> {
+    out: &'a Path,
+    size: u32,
+    code: [u8; 4],
+    files: Files,
+    /// Whether the files are filled.
+    filled: bool,
+}
+
+pub fn new(args: &Args) -> Outcome<()> {
+    let usage = || Failure::usage(format!("usage: {}", args.form.usage()));
+    let out = args.image.as_deref().ok_or_else(usage)?;
+    let (size, code) = args.size.zip(args.code.as_deref()).ok_or_else(usage)?;
+    let (code, filled) = (game_code(code)?, args.folder.is_some());
+    vacant(out)?;
+    let files = match (&args.from, &args.folder) {
+        (Some(list), None) => Files::listed(list)?,
+        (None, Some(folder)) => Files::found(folder)?,
+        _ => return Err(usage()),
+    };
+    let wish = Wish { out, size, code, files, filled };
+    let mut desk = Desk::new();
+    let image = made(&wish, &mut desk)?;
+    let disc = Disc::read(&image, &mut desk)?.with_paths()?;
+    let text = match args.json {
+        true => told(args, &wish, &disc).document().into_bytes(),
+        false => words(&wish, &disc),
+    };
+    match (args.dry, args.json) {
+        (true, true) => return say(&text),
+        (true, false) => return say(&dry(&text)),
+        _ => {}
+    }
+    let front = &image.bytes()[..table_end(&disc.opened) as usize];
+    write(&wish, &disc, &mut desk, front)?;
+    let last: &[u8] = if args.json { b"" } else { b"done: written and synced\n" };
+    finish(&[&text, last].concat())
+}
+
+fn game_code(code: &OsStr) -> Outcome<[u8; 4]> {
+    let plain = |code: &[u8; 4]| code.iter().all(|byte| (b' '..=b'~').contains(byte));
+    let code: Option<[u8; 4]> = code.as_bytes().try_into().ok();
+    code.filter(plain)
+        .ok_or_else(|| Failure::usage("--code: a game code has four characters of ASCII, as GCLE"))
+}
+
+/// The new image in memory: header and table are in it, and what is behind them is zero.
+fn made(wish: &Wish, desk: &mut Desk) -> Outcome<Image> {
+    let (sizes, paths) = (wish.files.sizes(), wish.files.paths());
+    let mut image = Image::blank(wish.out, wish.size as usize, HEADER_SIZE + MOST_TABLE)?;
+    let bytes = image.bytes_mut();
+    counter::master(bytes, &mut desk.lend(), &wish.code, wish.size, &sizes, &paths)
+        .map_err(|number| refused(wish, number))?;
+    Ok(image)
+}
+
+fn refused(wish: &Wish, number: u32) -> Failure {
+    let failure = Failure::refused(number, format!("new {}", names::file(wish.out)));
+    match wish.files.trouble(number) {
+        Some(why) => failure.because(why),
+        None => failure,
+    }
+}
+
+// What is said ----------------------------------------------------------------------------
+
+fn files(disc: &Disc) -> impl Iterator<Item = (&Node, u32, u32)> {
+    disc.nodes.iter().filter_map(|node| match node.kind {
+        Kind::File { offset, size } => Some((node, offset, size)),
+        Kind::Directory { .. } => None,
+    })
+}
+
+/// Used bytes, free bytes, the largest free region.
+fn totals(disc: &Disc) -> [u32; 3] {
+    let largest = disc.free.iter().map(|region| region.size).max();
+    let used = disc.opened.used;
+    [used, disc.opened.disc_end - used, largest.unwrap_or(0)]
+}
+
+fn notes(wish: &Wish, disc: &Disc, spell: fn(&[u8]) -> Vec<u8>) -> Vec<Vec<u8>> {
+    let left_out = wish.files.left_out.iter().map(|folder| {
+        format!("{} holds no file: the new master does not have it", names::file(folder)).into()
+    });
+    let new: Vec<&Node> = disc.nodes.iter().skip(1).collect();
+    left_out.chain(of_new(&new, disc, spell)).collect()
+}
+
+fn words(wish: &Wish, disc: &Disc) -> Vec<u8> {
+    let count = files(disc).count();
+    let mut out = format!(
+        "made {}: {} bytes, game code {}, {}, {}\n",
+        names::file(wish.out),
+        grouped(wish.size.into()),
+        String::from_utf8_lossy(&wish.code),
+        counted(count, "file", "files"),
+        counted(disc.nodes.len() - 1 - count, "folder", "folders"),
+    )
+    .into_bytes();
+    for (node, offset, size) in files(disc) {
+        let place = match size {
+            0 => ": empty\n".into(),
+            _ => format!(" at {offset:#x}: {}\n", counted(size as usize, "byte", "bytes")),
+        };
+        out.extend([&shown(&node.path)[..], place.as_bytes()].concat());
+    }
+    for note in notes(wish, disc, shown) {
+        out.extend([b"note: ", &note[..], b"\n"].concat());
+    }
+    let [used, free, largest] = totals(disc).map(|number| grouped(number.into()));
+    let table = grouped(disc.opened.fst_size.into());
+    out.extend(format!("table: {table} bytes\n").bytes());
+    out.extend(
+        format!("used {used} bytes, free {free} bytes, largest free region {largest} bytes\n")
+            .bytes(),
+    );
+    out
+}
+
+fn told(args: &Args, wish: &Wish, disc: &Disc) -> Json {
+    let files = files(disc).map(|(node, offset, size)| {
+        let mut fields = Vec::from(json::path(&node.path));
+        fields.extend([("offset", offset.into()), ("size", size.into())]);
+        Json::Object(fields)
+    });
+    let spell = |name: &[u8]| names::text(name).into_bytes();
+    let notes = notes(wish, disc, spell).into_iter();
+    let notes = notes.map(|note| String::from_utf8_lossy(&note).into_owned().into());
+    let left_out = wish.files.left_out.iter().map(|folder| names::file(folder).into());
+    let [used, free, largest] = totals(disc);
+    Json::answer(vec![
+        ("out", names::file(wish.out).into()),
+        ("dry_run", args.dry.into()),
+        ("written", (!args.dry).into()),
+        ("size", wish.size.into()),
+        ("game_code", String::from_utf8_lossy(&wish.code).into_owned().into()),
+        ("fst_size", disc.opened.fst_size.into()),
+        ("used", used.into()),
+        ("free", free.into()),
+        ("largest_free", largest.into()),
+        ("files", Json::List(files.collect())),
+        ("left_out", Json::List(left_out.collect())),
+        ("notes", Json::List(notes.collect())),
+    ])
+}
+
+// The writing -----------------------------------------------------------------------------
+
+/// Makes the file under another name in the same folder, and gives it its own when it is on the disk. Whatever
+/// goes wrong, nothing of it is left.
+fn write(wish: &Wish, disc: &Disc, desk: &mut Desk, front: &[u8]) -> Outcome<()> {
+    let out = resolved(wish.out)?;
+    let (early, file) = begin(&out).map_err(|e| not_made(wish.out, &e))?;
+    let done = fill_in(wish, disc, desk, front, &early, file).and_then(|()| {
+        // From here on it is only a moment.
+        signals::begin_writing(false);
+        put_in_place(&early, &out).map_err(|e| not_made(wish.out, &e))
+    });
+    if done.is_err() {
+        let _ = fs::remove_file(&early);
+    }
+    os::unfinished(None);
+    done
+}
+
+/// The place of OUT, whatever leads to its folder.
+fn resolved(out: &Path) -> Outcome<PathBuf> {
+    let Some(name) = out.file_name() else {
+        return Err(Failure::usage(format!("{}: this is no name of a file", names::file(out))));
+    };
+    let folder = match out.parent() {
+        Some(folder) if !folder.as_os_str().is_empty() => folder,
+        _ => Path::new("."),
+    };
+    let folder = fs::canonicalize(folder).map_err(|e| not_made(out, &e))?;
+    Ok(folder.join(name))
+}
+
+/// A new file in the folder of `out`, which a signal takes away. One that SIGKILL or a power cut left has its
+/// name for good.
+fn begin(out: &Path) -> io::Result<(PathBuf, File)> {
+    let mut number = process::id();
+    loop {
+        let path = out.with_file_name(format!("counter-new.{number}"));
+        let created = os::holding(|| {
+            let created = disk::create(On::Image, &path);
+            if created.is_ok() {
+                os::unfinished(Some(&path));
+            }
+            created
+        });
+        match created {
+            Err(e) if e.kind() == ErrorKind::AlreadyExists => number = number.wrapping_add(1),
+            created => return created.map(|file| (path, file)),
+        }
+    }
+}
+
+fn put_in_place(early: &Path, out: &Path) -> io::Result<()> {
+    disk::rename_new(On::Image, early, out)?;
+    disk::sync_folder(out).inspect_err(|_| {
+        let _ = fs::remove_file(out);
+    })
+}
+
+fn not_made(out: &Path, why: &io::Error) -> Failure {
+    Failure::file(if disk::is_full(why) { INPUT_OUTPUT } else { CANNOT_CREATE }, out, why)
+}
+
+/// Header and table, then the files.
+fn fill_in(
+    wish: &Wish,
+    disc: &Disc,
+    desk: &mut Desk,
+    front: &[u8],
+    early: &Path,
+    file: File,
+) -> Outcome<()> {
+    let failed = |e: io::Error| Failure::file(INPUT_OUTPUT, wish.out, &e);
+    file.set_len(wish.size.into()).map_err(failed)?;
+    disk::write_at(On::Image, &file, 0, front).map_err(failed)?;
+    if !wish.filled {
+        return disk::sync(On::Image, &file).map_err(failed);
+    }
+    let wanted = wish.files.files.iter().map(|file| u64::from(file.size));
+    enough_room(wish.out, &file, wanted.clone())?;
+    let progress = Progress::start("new", wanted.sum());
+    let mut image = Image::fresh(early, file)?;
+    let mut record =
+        counter::make_record(image.bytes(), &mut desk.lend()).map_err(|n| not_opened(&image, n))?;
+    for ((node, ..), wanted) in files(disc).zip(&wish.files.files) {
+        // The table has the files in the order in which the library was given them.
+        if node.path[1..] != wanted.path {
+            let text = format!("{}: libcounter told another file", names::text(&node.path));
+            return Err(Failure::error(INTERNAL, text));
+        }
+        let Source::File(path) = &wanted.source else { continue };
+        let clip = contents(path, wanted)?;
+        counter::fill_file(
+            image.bytes_mut(),
+            &mut desk.lend(),
+            &mut record,
+            node.number,
+            clip.bytes(),
+        )
+        .map_err(|number| Failure::refused(number, names::text(&node.path)))?;
+        progress.advance(wanted.size.into());
+    }
+    image.sync().map_err(failed)
+}
+
+/// The file's bytes, which must be as many as the master has room for.
+fn contents(path: &Path, wanted: &Wanted) -> Outcome<Mapping> {
+    let failed = |e: io::Error| cannot_open(path, &e);
+    let file = File::open(path).map_err(failed)?;
+    let len = file.metadata().map_err(failed)?.len();
+    if len != u64::from(wanted.size) {
+        let (had, has) = (grouped(wanted.size.into()), grouped(len));
+        let text = format!("{}: it had {had} bytes, and has {has} now", names::file(path));
+        return Err(Failure::error(DATA, text));
+    }
+    Mapping::new(&file, wanted.size as usize, Access::Read).map_err(failed)
+}
+
+/// A file that is mapped can say only by a signal that the disk is full, so that is asked before.
+fn enough_room(out: &Path, file: &File, sizes: impl Iterator<Item = u64>) -> Outcome<()> {
+    const BLOCK: u64 = 0x1000;
+    const SLACK: u64 = 0x10_0000;
+    let needed: u64 = sizes.map(|size| size.next_multiple_of(BLOCK)).sum();
+    match room::left(file) {
+        Some(left) if needed + needed / 64 + SLACK > left && !disk::assumes_room() => {
+            let text = format!(
+                "{}: the disk is full: the files take {}, and it has {} left; nothing was written",
+                names::file(out),
+                human(needed),
+                human(left)
+            );
+            Err(Failure::error(INPUT_OUTPUT, text))
+        }
+        _ => Ok(()),
+    }
+}
