@@ -367,10 +367,17 @@ fn features(asked: &Asked, tree: &Result<WishedTree, u32>, number: u32) -> Vec<&
             (number == 9 && fits && least > end, "wish list: the image short, before 21"),
             (number == 0 && asked.room as u64 > end, "wish list: bytes behind the disc end"),
             (
-                number == 0 && table_end > ALIGN && has_bytes,
-                "wish list: a table that passes 0x8000",
+                number == 0 && table_end == ALIGN && has_bytes,
+                "wish list: a table up to 0x8000, and files with bytes",
             ),
-            (number == 21 && least > u64::from(u32::MAX), "wish list: sizes past 2^32"),
+            (
+                number == 0 && table_end > ALIGN && has_bytes,
+                "wish list: a table that passes 0x8000, and files with bytes",
+            ),
+            (
+                number == 21 && least > 1 << 32 && least % (1 << 32) <= end,
+                "wish list: sizes past 2^32, whose lower bits have a place",
+            ),
         ]);
     }
     cases.iter().filter(|(met, _)| *met).map(|(_, feature)| *feature).collect()
@@ -547,6 +554,11 @@ fn near(value: u64, r: &mut Random) -> u32 {
     value.saturating_sub(r.below(2) as u64).min(u32::MAX.into()) as u32
 }
 
+/// The least disc end; of one past 32 bits the lower ones, for a sum that wraps.
+fn least_end(list: &WishList, tree: &WishedTree) -> u64 {
+    list.least_end(tree) % (1 << 32)
+}
+
 fn wished(r: &mut Random) -> Asked {
     let mut paths = good_paths(r);
     if r.chance(35) {
@@ -558,6 +570,12 @@ fn wished(r: &mut Random) -> Asked {
     let empty = r.chance(20) || paths.len() > 24;
     let mut sizes: Vec<u32> =
         paths.iter().map(|_| if empty { 0 } else { size(r, small) }).collect();
+    if sizes.len() > 1 && r.chance(4) {
+        // Together some clusters more than 2^32 bytes.
+        let k = r.below(sizes.len() - 1);
+        sizes[k] = any_number(r) | 0x4000_0000;
+        sizes[k + 1] = (r.below(3) as u32 * 0x8000).wrapping_sub(sizes[k]);
+    }
     let mut bytes: Vec<u8> = paths.iter().flat_map(|path| [&path[..], b"\0"].concat()).collect();
     match r.below(100) {
         0 => sizes.push(size(r, small)),
@@ -576,11 +594,11 @@ fn wished(r: &mut Random) -> Asked {
         (Err(_), _) => r.below(0x600) as u32,
         (Ok(_), 1) => r.below(0x600) as u32,
         (Ok(tree), 2 | 3) => near(0x440 + tree.table_size() as u64, r),
-        (Ok(tree), 4..=9) => list.least_end(tree).min(u32::MAX.into()) as u32,
-        (Ok(tree), 10..=14) => near(list.least_end(tree), r),
-        (Ok(tree), 15) => near(list.least_end(tree).next_multiple_of(ALIGN), r),
-        (Ok(tree), 16) => near(list.least_end(tree) + r.below(0x9000) as u64, r),
-        (Ok(tree), _) => near(list.least_end(tree) + r.below(0x300) as u64, r),
+        (Ok(tree), 4..=9) => least_end(&list, tree) as u32,
+        (Ok(tree), 10..=14) => near(least_end(&list, tree), r),
+        (Ok(tree), 15) => near(least_end(&list, tree).next_multiple_of(ALIGN), r),
+        (Ok(tree), 16) => near(least_end(&list, tree) + r.below(0x9000) as u64, r),
+        (Ok(tree), _) => near(least_end(&list, tree) + r.below(0x300) as u64, r),
     };
     let disc = list.disc_end as usize;
     let room = match r.below(24) {
@@ -696,7 +714,7 @@ fn limits() -> Vec<Asked> {
         let sizes: Vec<u32> = (0..paths.len()).map(sizes).collect();
         let mut list = list(0, &paths, &sizes);
         let tree = list.tree();
-        let least = tree.as_ref().map_or(0x500, |tree| list.least_end(tree).min(u32::MAX.into()));
+        let least = tree.as_ref().map_or(0x500, |tree| least_end(&list, tree));
         let lent = tree.as_ref().map_or(AMPLE, WishedTree::least);
         for disc_end in [least as u32, least as u32 - 1] {
             list.disc_end = disc_end;
