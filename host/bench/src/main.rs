@@ -25,6 +25,7 @@ mod giant;
 mod growth;
 mod images;
 mod long;
+mod master;
 mod measure;
 mod measuring;
 mod megabyte;
@@ -70,6 +71,9 @@ fn main() {
     }
     if runs("record") {
         record::run(&mut misses);
+    }
+    if runs("master") {
+        master::run(&mut misses);
     }
     if runs("giant") {
         giant::run(&mut misses);

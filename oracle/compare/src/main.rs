@@ -19,6 +19,8 @@ mod rules;
 mod run;
 mod sample;
 mod suites;
+mod wish_rules;
+mod wishes;
 
 use judge::CLASSES;
 use run::{Counts, Run};
@@ -26,9 +28,9 @@ use sample::Sample;
 use std::process::exit;
 use std::time::Instant;
 
-const SUITES: [&str; 10] = [
+const SUITES: [&str; 11] = [
     "limits", "numbers", "fills", "records", "maxima", "programs", "names", "tables", "trees",
-    "random",
+    "wishes", "random",
 ];
 
 struct Options {
@@ -192,7 +194,8 @@ fn main() {
             "names" => names::names(&mut run),
             "tables" => suites::tables(&mut run),
             "trees" => suites::trees(&mut run),
-            _ => run.random(options.seed, options.images, 14, 11),
+            "wishes" => wishes::wishes(&mut run, options.seed, options.images),
+            _ => run.random(options.seed, options.images),
         }
     }
     let counts = run.finish();

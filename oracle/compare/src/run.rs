@@ -23,6 +23,10 @@ use std::rc::Rc;
 /// Images that are under way at a time.
 const WAVE: usize = 96;
 
+/// Calls that look at a random image, and edits of it.
+const LOOKS: usize = 14;
+const EDITS: usize = 11;
+
 /// Faults that are printed with a replay, and after which a run ends unless it is told to go on.
 pub const FAULTS: usize = 8;
 
@@ -56,8 +60,8 @@ pub struct Run {
     pub probe: Side,
     pub oracle: Side,
     pub counts: Counts,
-    codec: Rc<Codec>,
-    place: PathBuf,
+    pub codec: Rc<Codec>,
+    pub place: PathBuf,
     /// Whether the library has insert and make-directories.
     pub inserts: bool,
     /// Faults after which the run ends.
@@ -65,7 +69,7 @@ pub struct Run {
 }
 
 /// One image under way.
-struct Case {
+pub struct Case {
     r: Random,
     /// For records and maxima, so that all else stays the same.
     aside: Random,
@@ -88,11 +92,11 @@ struct Case {
     /// Where the image has names that do not come back; the oracle then keeps it with stand-ins.
     others: Option<Others>,
     /// No stand-ins serve for these names: the original is asked to open the image, and no more.
-    mixed: Option<Class>,
+    pub mixed: Option<Class>,
 }
 
 impl Case {
-    fn new(r: Random, image: Vec<u8>, name: String, codec: &Rc<Codec>) -> Self {
+    pub fn new(r: Random, image: Vec<u8>, name: String, codec: &Rc<Codec>) -> Self {
         let opened = rules::open(&image, usize::MAX);
         let odd = odd_name(&image);
         let program = opened.as_ref().ok().and_then(|tree| tree.program);
@@ -122,6 +126,14 @@ impl Case {
         case
     }
 
+    pub fn image(&self) -> &[u8] {
+        &self.image
+    }
+
+    pub fn into_image(self) -> Vec<u8> {
+        self.image
+    }
+
     fn find_others(&mut self) {
         let Ok(tree) = &self.opened else { return };
         (self.others, self.mixed) =
@@ -142,7 +154,7 @@ impl Case {
     }
 
     /// What the original's answer to a twin stands for.
-    fn back(&self, call: &Call, answer: &str) -> String {
+    pub fn back(&self, call: &Call, answer: &str) -> String {
         let text = |digits: &str| hex(&self.stand_ins.back(&unhex(digits)));
         match (call, answer.strip_prefix("ok ")) {
             (Call::Listing, Some(listing)) => format!("ok {}", text(listing)),
@@ -166,7 +178,7 @@ impl Case {
     }
 
     /// The image that the oracle has is as it is: stand-ins go in.
-    fn stand_in(&self, lines: &mut Batch) {
+    pub fn stand_in(&self, lines: &mut Batch) {
         if let Some(others) = &self.others {
             lines.oracle(others.twin());
         }
@@ -344,21 +356,21 @@ struct Program {
 }
 
 #[derive(Default)]
-struct Batch {
+pub struct Batch {
     probe: Vec<String>,
     oracle: Vec<String>,
 }
 
 impl Batch {
-    fn both(&mut self, line: String) {
+    pub fn both(&mut self, line: String) {
         self.probe.push(line.clone());
         self.oracle.push(line);
     }
-    fn probe(&mut self, line: String) -> usize {
+    pub fn probe(&mut self, line: String) -> usize {
         self.probe.push(line);
         self.probe.len() - 1
     }
-    fn oracle(&mut self, line: String) -> usize {
+    pub fn oracle(&mut self, line: String) -> usize {
         self.oracle.push(line);
         self.oracle.len() - 1
     }
@@ -411,7 +423,7 @@ impl Run {
         })
     }
 
-    fn ask(&mut self, lines: &Batch) -> (Vec<String>, Vec<String>) {
+    pub fn ask(&mut self, lines: &Batch) -> (Vec<String>, Vec<String>) {
         self.probe.send(batch(&lines.probe));
         self.oracle.send(batch(&lines.oracle));
         (self.probe.read(&lines.probe), self.oracle.read(&lines.oracle))
@@ -422,25 +434,29 @@ impl Run {
     }
 
     fn count(&mut self, call: &Call, verdict: &Verdict) {
-        let (calls, accepted) = self.counts.calls.entry(call.name()).or_default();
-        *calls += 1;
-        match verdict.expected.strip_prefix("err ") {
-            Some(number) => {
-                let number = number.parse().unwrap_or(0);
-                *self.counts.refusals.entry((call.name(), number)).or_default() += 1;
-            }
-            None => *accepted += 1,
-        }
+        self.count_answer(call.name(), &verdict.expected);
         if let Some(class) = verdict.class {
             *self.counts.differences.entry((class, call.name())).or_default() += 1;
         }
     }
 
+    /// An answer that is as it has to be.
+    pub fn count_answer(&mut self, call: &'static str, answer: &str) {
+        let (calls, accepted) = self.counts.calls.entry(call).or_default();
+        *calls += 1;
+        match answer.strip_prefix("err ") {
+            Some(number) => {
+                let number = number.parse().unwrap_or(0);
+                *self.counts.refusals.entry((call, number)).or_default() += 1;
+            }
+            None => *accepted += 1,
+        }
+    }
+
     // Images made up at random --------------------------------------------------------------
 
-    /// `images` masters and damaged copies, `looks` calls that look at each and `edits` edits of
-    /// each that opens.
-    pub fn random(&mut self, seed: u64, images: u64, looks: usize, edits: usize) {
+    /// `images` masters and damaged copies, looked at and edited.
+    pub fn random(&mut self, seed: u64, images: u64) {
         let (mut begun, mut waves) = (0, 0);
         while begun < images && !self.over() {
             let mut cases = vec![];
@@ -454,20 +470,37 @@ impl Run {
                 cases.extend(case.mixed.is_none().then(|| case.with_maximum().with_ledger()));
                 begun += 1;
             }
-            self.looks(&mut cases, looks);
-            for _ in 0..edits {
-                if self.over() {
-                    break;
-                }
-                self.edits(&mut cases);
-            }
-            if !self.over() {
-                self.ledgers(&cases);
-            }
+            self.carry_on(&mut cases);
             waves += 1;
             if waves % 100 == 0 {
                 eprintln!("{begun} images, {} calls", self.counts.total());
             }
+        }
+    }
+
+    /// These images, looked at and edited.
+    pub fn given(&mut self, seed: u64, images: Vec<Vec<u8>>) {
+        let of = |(i, image)| {
+            let r = Random::new(seed.wrapping_add(i as u64));
+            Case::new(r, image, format!("c{i}a"), &self.codec)
+        };
+        let cases = images.into_iter().enumerate().map(of);
+        let mut cases: Vec<Case> =
+            cases.filter(|case| case.mixed.is_none()).map(Case::with_ledger).collect();
+        self.carry_on(&mut cases);
+    }
+
+    /// Calls that look at each image, and a list of edits of each that opens.
+    fn carry_on(&mut self, cases: &mut [Case]) {
+        self.looks(cases, LOOKS);
+        for _ in 0..EDITS {
+            if self.over() {
+                return;
+            }
+            self.edits(cases);
+        }
+        if !self.over() {
+            self.ledgers(cases);
         }
     }
 
@@ -651,7 +684,7 @@ impl Run {
         }
     }
 
-    fn met(&mut self, features: Vec<&'static str>) {
+    pub fn met(&mut self, features: Vec<&'static str>) {
         for feature in features {
             *self.counts.features.entry(feature).or_default() += 1;
         }
