@@ -1,6 +1,6 @@
 //! A second writing of a new master, by docs/RULES.md alone: which number the call answers, and what
-//! an image is that it makes. The rules leave open where the files lie, so an image is held to what
-//! any placement has to be, and a refusal to there being none.
+//! an image is that it makes. Which places the files take is not written again: an image is held to
+//! what any placement has to be, and 21 to there being none.
 
 use crate::rules::{self, ALIGN, DEPTH, ENTRIES, GAMECUBE, PATH, TEXTS, set_word, word};
 use std::collections::{HashMap, HashSet};
