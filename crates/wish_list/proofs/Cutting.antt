@@ -1,7 +1,9 @@
 -- Bytes cut into paths, one after the other. Assumes nothing.
-use Rattle.std.specs.Prelude.{ℕ, zero, suc, ◌+◌, ◌<◌, ◌≡◌, refl, false, List, [], ◌∷◌, length, take, drop}
+use Rattle.std.specs.Prelude.{ℕ, zero, suc, ◌+◌, ◌<◌, ◌≡◌, refl, false, cond, List, [], ◌∷◌, length, take, drop}
+use Rattle.std.specs.List.{count_by}
 use Rattle.std.proofs.Common.{ap, ◌∙◌, arith}
 use Rattle.std.proofs.lemmas.Bool.Decides.{nat_tests}
+use Rattle.std.proofs.lemmas.List.Sums.{sum_by-cons}
 use Rattle.tree.specs.Table.{first_text}
 use Rattle.wish_list.specs.Paths.{paths_in, onto_path, is_zero}
 
@@ -16,6 +18,13 @@ paths_in-more b s = rw (is_zero-suc b)
 pub length-onto_path : (b : ℕ) (paths : List (List ℕ)) → length (onto_path b paths) ≡ length paths
 length-onto_path b [] = refl
 length-onto_path b (path ∷ paths) = refl
+
+-- LAW: there are as many as zero bytes
+pub length-paths_in : (bytes : List ℕ) → length (paths_in bytes) ≡ count_by is_zero bytes
+unfolding paths_in
+length-paths_in [] = refl
+length-paths_in (zero ∷ s) = rw (sum_by-cons (λ b. cond (is_zero b) 1 0) 0 s) (omega (arith, length-paths_in s))
+length-paths_in (suc b ∷ s) = rw (paths_in-more b s, sum_by-cons (λ x. cond (is_zero x) 1 0) (suc b) s, is_zero-suc b) (length-onto_path (suc b) (paths_in s) ∙ length-paths_in s ∙ omega arith)
 
 onto-some : (b : ℕ) (paths : List (List ℕ)) → 0 < length (onto_path b paths) → 0 < length paths
 onto-some b [] h = h

@@ -1,11 +1,12 @@
 -- The texts of the tree of a wish list, and how long its table is: sizes and offsets change neither, nor the limits. Assumes nothing.
 use Rattle.std.specs.Prelude.{ℕ, suc, ◌+◌, ◌*◌, ◌<◌, ◌≡◌, refl, List, [], ◌∷◌, ◌++◌, length, drop}
 use Rattle.std.specs.List.{list_all}
-use Rattle.std.proofs.Common.{sym, ap, ◌∙◌, arith, length-append, append_assoc}
+use Rattle.std.proofs.Common.{sym, ap, ◌∙◌, arith, length-append}
 use Rattle.std.proofs.lemmas.List.Splits.{length-slice_split}
 use mathlib.Core.List.{tail}
-use Rattle.tree.specs.Table.{Node, file, directory, texts_of, encode, is_shallow, limits}
+use Rattle.tree.specs.Table.{texts_of, encode, is_shallow, limits}
 use Rattle.tree.proofs.Laws.WrittenEntries.{length-encode}
+use Rattle.tree.proofs.Laws.Writing.{texts-append}
 use Rattle.wish_list.specs.Paths.{is_slash, names_of}
 use Rattle.wish_list.specs.Tree.{Wish, wishes, common, added, below, entries_from, entries_with, tree_from, tree}
 use Rattle.wish_list.proofs.Laws.Below.{AllNamed, length-tree}
@@ -23,12 +24,6 @@ unfoldable pub added_texts : List (List ℕ) → List Wish → List ℕ
 added_texts before [] = []
 added_texts before (w ∷ ws) = name_texts (drop (common before w.names) w.names) ++ added_texts w.names ws
 
-pub texts_of-append : (xs ys : List Node) → texts_of (xs ++ ys) ≡ texts_of xs ++ texts_of ys
-unfolding texts_of
-texts_of-append [] ys = refl
-texts_of-append (file nm offset size ∷ xs) ys = rw (texts_of-append xs ys) (sym (append_assoc nm (0 ∷ texts_of xs) (texts_of ys)))
-texts_of-append (directory nm next ∷ xs) ys = rw (texts_of-append xs ys) (sym (append_assoc nm (0 ∷ texts_of xs) (texts_of ys)))
-
 pub texts_of-entries_from : (k n : ℕ) (names : List (List ℕ)) (w : Wish) (ws : List Wish) → texts_of (entries_from k n names w ws) ≡ name_texts names
 unfolding entries_from texts_of name_texts
 texts_of-entries_from k n [] w ws = refl
@@ -39,7 +34,7 @@ pub texts_of-tree_from : (k : ℕ) (before : List (List ℕ)) (ws : List Wish) �
 unfolding tree_from texts_of added_texts
 texts_of-tree_from k before [] = refl
 texts_of-tree_from k before (w ∷ ws) =
-    texts_of-append (entries_with k before w ws) (tree_from (k + added before w.names) w.names ws) ∙
+    texts-append (entries_with k before w ws) (tree_from (k + added before w.names) w.names ws) ∙
     rw (texts_of-entries_from k (common before w.names) (drop (common before w.names) w.names) w ws, texts_of-tree_from (k + added before w.names) w.names ws)
 
 pub texts_of-tree : (ws : List Wish) → texts_of (tail (tree ws)) ≡ added_texts [] ws
@@ -136,18 +131,8 @@ wishes-same [] sizes offsets sizes' offsets' = tt
 wishes-same (path ∷ paths) sizes offsets sizes' offsets' = (refl, wishes-same paths (tail sizes) (tail offsets) (tail sizes') (tail offsets'))
 
 module _ (paths : List (List ℕ)) (sizes offsets sizes' offsets' : List ℕ) where
-  pub length-tree-placed : length (tree (wishes paths sizes offsets)) ≡ length (tree (wishes paths sizes' offsets'))
-  length-tree-placed = length-tree-same (wishes paths sizes offsets) (wishes paths sizes' offsets') (wishes-same paths sizes offsets sizes' offsets')
-
-  pub texts-tree-placed : length (texts_of (tail (tree (wishes paths sizes offsets)))) ≡ length (texts_of (tail (tree (wishes paths sizes' offsets'))))
-  texts-tree-placed = texts-tree-same (wishes paths sizes offsets) (wishes paths sizes' offsets') (wishes-same paths sizes offsets sizes' offsets')
-
   pub encode-length-placed : length (encode (tree (wishes paths sizes offsets))) ≡ length (encode (tree (wishes paths sizes' offsets')))
   encode-length-placed = encode-length-same (wishes paths sizes offsets) (wishes paths sizes' offsets') (wishes-same paths sizes offsets sizes' offsets')
-
-  pub is_shallow-placed : is_shallow (tree (wishes paths sizes offsets)) ≡ is_shallow (tree (wishes paths sizes' offsets'))
-  is_shallow-placed =
-      is_shallow-same (wishes paths sizes offsets) (wishes paths sizes' offsets') (wishes-named paths sizes offsets) (wishes-named paths sizes' offsets') (wishes-same paths sizes offsets sizes' offsets')
 
   pub limits-placed : (words : ℕ) → limits (tree (wishes paths sizes offsets)) words ≡ limits (tree (wishes paths sizes' offsets')) words
   limits-placed words =

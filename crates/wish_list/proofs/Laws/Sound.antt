@@ -5,7 +5,7 @@ use Rattle.std.proofs.lemmas.Bool.{lt-leb}
 use Rattle.tree.specs.Table.{Node, top, dirs_open_at}
 use Rattle.tree.specs.Inner.WellFormed.{IsGoodName, IsSound, IsWellFormed}
 use Rattle.wish_list.specs.Tree.{Wish, common, added, below, entries_from, tree_from, tree}
-use Rattle.wish_list.proofs.Laws.Below.{AllNamed, common-less, common-most, added-least, below-in, below-out, below-zero, below-falls, below-most, length-tree_from}
+use Rattle.wish_list.proofs.Laws.Below.{common-less, common-most, added-least, below-in, below-out, below-zero, below-falls, below-most, length-tree_from}
 
 -- ---- the directories open where a file was written
 
@@ -76,10 +76,10 @@ abbrev pub AllGoodWishes : List Wish → Type 0
 AllGoodWishes [] = Unit {0}
 AllGoodWishes (w ∷ ws) = IsGoodWish w × AllGoodWishes ws
 
-good_rest : (n : ℕ) (names : List (List ℕ)) → AllGoodNames names → AllGoodNames (drop n names)
-good_rest zero names g = g
-good_rest (suc n) [] g = tt
-good_rest (suc n) (name ∷ names) g = good_rest n names g.1
+pub good-rest : (n : ℕ) (names : List (List ℕ)) → AllGoodNames names → AllGoodNames (drop n names)
+good-rest zero names g = g
+good-rest (suc n) [] g = tt
+good-rest (suc n) (name ∷ names) g = good-rest n names g.1
 
 -- the entries of a file, and what follows them, from its n-th name on: `next` is the entry behind them
 entries-sound : (c k n next : ℕ) (dirs : List ℕ) (names : List (List ℕ)) (w : Wish) (ws : List Wish) (rest : List Node) →
@@ -111,7 +111,7 @@ tree_from-sound c k before (w ∷ ws) g e =
     let s : common before w.names < length w.names = common-less before w.names (g.0).named in
     let z : k + added before w.names + below 0 w.names ws ≡ c = omega (arith, below-zero before w ws) in
     entries-sound c k (common before w.names) (k + added before w.names) (ends k before (w ∷ ws) (length before - 1)) (drop (common before w.names) w.names) w ws (tree_from (k + added before w.names) w.names ws)
-    (omega arith) (omega arith) (omega arith) z (good_rest (common before w.names) w.names (g.0).good) (g.0).offset_fits (g.0).size_fits
+    (omega arith) (omega arith) (omega arith) z (good-rest (common before w.names) w.names (g.0).good) (g.0).offset_fits (g.0).size_fits
     (ends-open k before w ws (length before - 1) (g.0).named (common-most before w.names)) (tree_from-sound c (k + added before w.names) w.names ws g.1 z)
 
 pub tree-sound : (ws : List Wish) → AllGoodWishes ws → IsWellFormed (tree ws)
@@ -123,8 +123,3 @@ tree-sound ws g =
       root = rw l;
       sound = rw s at (tree_from-sound (suc (length (tree_from 1 [] ws))) 1 [] ws g (omega arith));
     }
-
--- each of them has a name
-pub good-named : (ws : List Wish) → AllGoodWishes ws → AllNamed ws
-good-named [] g = tt
-good-named (w ∷ ws) g = ((g.0).named, good-named ws g.1)
