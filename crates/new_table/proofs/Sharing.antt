@@ -12,9 +12,6 @@ pub record Sharing (before path : List ℕ) (i n : ℕ) : Type 0 where
   pub more : 0 < shared_bytes (drop i before) (drop i path) → shared_bytes before path ≡ i + shared_bytes (drop i before) (drop i path)
   pub last : shared_bytes (drop i before) (drop i path) ≡ 0 → shared_bytes before path ≡ n
 
-pub sharing-none : (before path : List ℕ) → Sharing before path 0 0
-sharing-none before path = record { within = omega arith; more = λ h. omega arith; last = λ h. h }
-
 -- the step at byte i
 module _ (before path : List ℕ) (i n : ℕ) (s : Sharing before path i n) (in_before : i < length before) (in_path : i < length path) where
   here : shared_bytes (drop i before) (drop i path) ≡ cond (eqb (get_or before i 0) (get_or path i 0)) (shared_from (get_or path i 0) (shared_bytes (drop (suc i) before) (drop (suc i) path))) 0

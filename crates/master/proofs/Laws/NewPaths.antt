@@ -201,8 +201,3 @@ tree-paths ws named = tree_from-paths (tree ws) 1 [] ws named (root_around ws) (
 -- LAW: the same, entry by entry
 pub path_of-tree : (ws : List Wish) (k : ℕ) → AllNamed ws → k < length (entry_paths [] ws) → path_of (tree ws) (suc k) ≡ 0x2F ∷ get_or (entry_paths [] ws) k []
 path_of-tree ws k named h = rw one-add at (path-at (tree ws) 1 (entry_paths [] ws) k (tree-paths ws named) h)
-
--- LAW: it is the path of the directory that the entry is nested in, and its name
-pub path-parent : (ws : List Wish) (k : ℕ) → AllNamed ws → k < length (entry_paths [] ws) →
-    0x2F ∷ get_or (entry_paths [] ws) k [] ≡ path_of (tree ws) (parent_of (tree ws) (suc k)) ++ (name_of (get_or (tree ws) (suc k) empty_root) ++ ending (get_or (tree ws) (suc k) empty_root))
-path-parent ws k named h = sym (path_of-tree ws k named h) ∙ path-step (tree ws) (suc k) (omega arith)

@@ -12,6 +12,7 @@ use Rattle.wish_list.proofs.Laws.NameTexts.{wishes-named}
 use Rattle.master.specs.Inner.Entries.{front_of, paths_below, paths_with, entry_paths}
 use Rattle.master.specs.Theorem.{FileSeen, file_seen, files_from, files_in, files_wished}
 use Rattle.master.proofs.Laws.NewPaths.{Stands, HasPaths, stands-left, stands-right, paths-left, paths-right, length-paths_with, tree-stands, tree-paths}
+use Rattle.master.proofs.Laws.OrderNames.{joined-behind}
 
 -- ---- names and paths
 
@@ -45,9 +46,9 @@ unfolding entries_from paths_below Stands HasPaths files_from
 entries-files nodes k n front [] w ws h s p = absurd (omega arith)
 entries-files nodes k n front (name ∷ []) w ws h s p = rw (s.0, p.0)
 entries-files nodes k n front (name ∷ inside ∷ names) w ws h s p =
-    let j : List ℕ = join_with_byte 0x2F (inside ∷ names) in
-    let e : (front ++ (name ++ (0x2F ∷ []))) ++ j ≡ front ++ (name ++ (0x2F ∷ j)) = append_assoc front (name ++ (0x2F ∷ [])) j ∙ ap (λ (t : List ℕ). front ++ t) (append_assoc name (0x2F ∷ []) j) in
-    rw s.0 (entries-files nodes (suc k) (suc n) (front ++ (name ++ (0x2F ∷ []))) (inside ∷ names) w ws (omega arith) s.1 p.1 ∙ rw e)
+    rw s.0
+    (entries-files nodes (suc k) (suc n) (front ++ (name ++ (0x2F ∷ []))) (inside ∷ names) w ws (omega arith) s.1 p.1
+    ∙ ap (λ (path : List ℕ). record { path = 0x2F ∷ path; size = w.size } ∷ []) (joined-behind front name inside names))
 
 -- each file of a wish list
 unfoldable pub files_of : List Wish → List FileSeen

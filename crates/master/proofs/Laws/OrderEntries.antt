@@ -9,7 +9,7 @@ use Rattle.tree.specs.Inner.WellFormed.{IsGoodName}
 use Rattle.wish_list.specs.Paths.{is_below, is_used_by, names_of}
 use Rattle.wish_list.specs.Tree.{wishes, common}
 use Rattle.wish_list.proofs.Laws.Below.{common-less}
-use Rattle.wish_list.proofs.Laws.Sound.{AllGoodNames}
+use Rattle.wish_list.proofs.Laws.Sound.{AllGoodNames, good-rest}
 use Rattle.wish_list.proofs.Laws.NameTexts.{names_of-named}
 use Rattle.wish_list.proofs.Laws.AcceptedPaths.{HasPassed, HaveAllPassed, names_of-good}
 use Rattle.master.specs.Inner.Entries.{front_of, paths_below, paths_with, entry_paths}
@@ -86,11 +86,6 @@ rise-below last front (name ∷ []) texts h g b r = (b, r)
 rise-below last front (name ∷ next ∷ names) texts h g b r =
     let e : List ℕ = front ++ (name ++ (0x2F ∷ [])) in
     (b, rise-below e e (next ∷ names) texts (omega arith) g.1 (first-above e (next ∷ names) (omega arith) g.1) (rw (joined-behind front name next names) r))
-
-good-rest : (n : ℕ) (names : List (List ℕ)) → AllGoodNames names → AllGoodNames (drop n names)
-good-rest zero names g = g
-good-rest (suc n) [] g = tt
-good-rest (suc n) (name ∷ names) g = good-rest n names g.1
 
 -- ---- the entries of all files
 

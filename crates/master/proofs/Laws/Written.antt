@@ -1,6 +1,5 @@
 -- A new master's bytes: its header reads as it was made, its table stands behind it, and all else below the disc end is 0. Assumes nothing.
-use Rattle.std.specs.Prelude.{ℕ, ◌+◌, ◌^◌, ◌<◌, ◌≤◌, ◌≡◌, refl, List, length, get_or, replicate}
-use Rattle.std.specs.Prelude.{Ok, None, Bool, true, false, cond, zero, suc}
+use Rattle.std.specs.Prelude.{ℕ, ◌+◌, ◌^◌, ◌<◌, ◌≤◌, ◌≡◌, refl, List, length, get_or, replicate, Ok, None, Bool, true, false, cond, zero, suc}
 use Rattle.std.proofs.Common.{ap, ◌∙◌, arith, zero-add}
 use Rattle.std.proofs.lemmas.List.{length-replicate}
 use Rattle.endian.specs.Bytes.{be32, put}

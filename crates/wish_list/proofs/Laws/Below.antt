@@ -78,6 +78,11 @@ pub below-most : (n : ℕ) (before : List (List ℕ)) (ws : List Wish) → below
 below-most zero before ws = omega arith
 below-most (suc n) before ws = omega (arith, below-falls n before ws, below-most n before ws)
 
+-- each file brings an entry
+pub below-files : (before : List (List ℕ)) (ws : List Wish) → AllNamed ws → length ws ≤ below 0 before ws
+below-files before [] h = omega arith
+below-files before (w ∷ ws) h = omega (arith, below-zero before w ws, added-least before w.names h.0, below-files w.names ws h.1)
+
 -- ---- lengths
 
 pub length-entries_from : (k n : ℕ) (names : List (List ℕ)) (w : Wish) (ws : List Wish) → length (entries_from k n names w ws) ≡ length names

@@ -117,6 +117,11 @@ limits-same ws vs words n m s = rw (length-tree-same ws vs s, texts-tree-same ws
 
 -- ---- paths with sizes and offsets
 
+pub length-wishes : (paths : List (List ℕ)) (sizes offsets : List ℕ) → length (wishes paths sizes offsets) ≡ length paths
+unfolding wishes
+length-wishes [] sizes offsets = refl
+length-wishes (path ∷ paths) sizes offsets = ap suc (length-wishes paths (tail sizes) (tail offsets))
+
 pub names_of-named : (path : List ℕ) → 0 < length (names_of path)
 names_of-named path = omega (arith, length-slice_split is_slash path)
 
