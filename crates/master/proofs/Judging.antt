@@ -1,5 +1,5 @@
 -- What a new master is refused for, test by test. Assumes nothing.
-use Rattle.std.specs.Prelude.{Ok, Err, ℕ, suc, ◌^◌, ◌<◌, ◌≤◌, ◌≡◌, refl, true, false, List, [], ◌∷◌, length}
+use Rattle.std.specs.Prelude.{Ok, Err, ℕ, suc, ◌^◌, ◌<◌, ◌≤◌, ◌≡◌, true, false, List, [], length}
 use Rattle.std.proofs.Common.{arith, ◌∙◌, lt-ltb, le-ltb}
 use Rattle.refusal.specs.declared.Refusal.{Refusal}
 use Rattle.refusal.specs.declared.Refusal.TheVariants.{LimitOrMemory, NotEnoughSpace}

@@ -2,10 +2,10 @@
 use Rattle.std.specs.Prelude.{ℕ, zero, suc, ◌+◌, ◌-◌, ◌<◌, ◌≤◌, ◌≡◌, refl, List, [], ◌∷◌, ◌++◌, length, drop, get_or}
 use Rattle.std.proofs.Common.{sym, ap, ◌∙◌, ⊎_elim, arith, add-zero, one-add, append_assoc, append-nil, length-append, length-drop}
 use Rattle.refusal.specs.Laws.Tests.{lt-or-le}
-use Rattle.tree.specs.Table.{Node, file, directory, name_of, empty_root, parent_of}
+use Rattle.tree.specs.Table.{Node, file, directory, empty_root}
 use Rattle.tree.specs.Lookup.{next_of}
-use Rattle.listing.specs.Lines.{ending, path_of}
-use Rattle.listing.proofs.Paths.{path-root, path-step}
+use Rattle.listing.specs.Lines.{path_of}
+use Rattle.listing.proofs.Paths.{path-root}
 use Rattle.wish_list.specs.Tree.{Wish, common, added, below, entries_from, entries_with, tree_from, tree}
 use Rattle.wish_list.proofs.Laws.Below.{AllNamed, common-less, common-most, below-in, below-out, below-zero, below-nil, length-entries_with, length-tree}
 use Rattle.master.specs.Inner.Entries.{front_of, paths_below, paths_with, entry_paths}
