@@ -16,7 +16,7 @@ use Rattle.new_table.proofs.Names.{length-names_of}
 
 -- ---- a name has no `/`
 
-pub slashes-append : (xs ys : List ℕ) → slashes (xs ++ ys) ≡ slashes xs + slashes ys
+slashes-append : (xs ys : List ℕ) → slashes (xs ++ ys) ≡ slashes xs + slashes ys
 slashes-append xs ys = sum_by-append (λ (b : ℕ). cond (is_slash b) 1 0) xs ys
 
 pub slashes-split : (i : ℕ) (path : List ℕ) → slashes (take i path) + slashes (drop i path) ≡ slashes path
@@ -106,7 +106,7 @@ module _ (old path ends : List ℕ) (texts shared last behind offset size : ℕ)
       slashes-parts : slashes (drop start' path) ≡ suc (slashes (drop start path))
       slashes-parts = omega (arith, length-names_of (drop start' path), length-names_of (drop start path), ap length names-parts)
 
-      pub name-length : length name ≡ start - 1 - start'
+      name-length : length name ≡ start - 1 - start'
       name-length = length-span path start' (start - 1 - start') (omega (arith, c.before, d.within))
 
       pub some-directory : 0 < n

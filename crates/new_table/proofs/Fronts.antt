@@ -37,7 +37,7 @@ some-paths (x ∷ y ∷ s) h e = go (is_zero x) (some-paths (y ∷ s) (omega ari
     go true ih = omega arith
     go false ih = omega (arith, length-onto_path x (paths_in (y ∷ s)))
 
-pub paths_in-append : (s r : List ℕ) → Ended s → paths_in (s ++ r) ≡ paths_in s ++ paths_in r
+paths_in-append : (s r : List ℕ) → Ended s → paths_in (s ++ r) ≡ paths_in s ++ paths_in r
 unfolding paths_in
 paths_in-append [] r e = refl
 paths_in-append (x ∷ []) r e = rw e refl
@@ -72,7 +72,7 @@ module _ (s : List ℕ) (end : ℕ) (path : List ℕ) (a : At s end path) where
       ⊎_elim (λ (h : 0 < end). rw l (get_or-take end s (end - 1) 0 (omega arith) ∙ a.ended h))
       (λ (h : end ≤ 0). let z : end ≡ 0 = omega arith in rw z refl) (lt-or-le 0 end)
 
-  pub both : paths_in s ≡ paths_in (take end s) ++ paths_in (drop end s)
+  both : paths_in s ≡ paths_in (take end s) ++ paths_in (drop end s)
   both = ap paths_in (sym (take-append-drop end s)) ∙ paths_in-append (take end s) (drop end s) front-ended
 
   module _ (some : 0 < end) where
@@ -100,10 +100,10 @@ module _ (s : List ℕ) (end : ℕ) (path : List ℕ) (a : At s end path) where
     rest-is = ap paths_in behind ∙ paths_in-path path (drop end s) plain
 
     -- the place before it
-    pub start-within : start ≤ length s
+    start-within : start ≤ length s
     start-within = omega (arith, a.within)
 
-    pub start-ended : 0 < start → get_or s (start - 1) 0 ≡ 0
+    start-ended : 0 < start → get_or s (start - 1) 0 ≡ 0
     start-ended h = ((a.before).cut some).cut h
 
     front : take end s ≡ take start s ++ (path ++ (0 ∷ []))

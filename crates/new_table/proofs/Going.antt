@@ -86,7 +86,7 @@ path_entries-from ends next k n (name ∷ inner ∷ names) w ws e l f =
 module _
     (paths sizes offsets : List ℕ) (count size i end : ℕ) (path ends : List ℕ) (entry text : ℕ) (bytes : List ℕ)
     (f : Fitting paths count size) (g : Going paths sizes offsets count size i end path ends entry text bytes) (some : 0 < i) where
-  pub end-some : 0 < end
+  end-some : 0 < end
   end-some =
       ⊎_elim (λ (h : 0 < end). h)
       (λ (h : end ≤ 0).
@@ -95,7 +95,7 @@ module _
       absurd (omega arith)) (lt-or-le 0 end)
 
   module _ (end' : ℕ) (before : List ℕ) (e : end' ≡ end - suc (length path)) (b : IsPathBefore paths end' before) where
-    pub place-next : At paths end' before
+    place-next : At paths end' before
     place-next = at-before paths end path g.place end-some end' before e b
 
     rest-next : paths_in (drop end' paths) ≡ path ∷ paths_in (drop end paths)

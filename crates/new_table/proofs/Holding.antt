@@ -100,7 +100,7 @@ module _ (bytes : List ℕ) (count entry next text behind : ℕ) (x : Node) (xs 
       let o : text - 12 * count + suc (length (name_of x)) ≡ behind - 12 * count = omega arith in
       rw (parent_of-none entry, o, one) refl
 
-  pub holds-more : Holds (entry_put (12 * count) entry text x bytes) count entry text (x ∷ xs)
+  holds-more : Holds (entry_put (12 * count) entry text x bytes) count entry text (x ∷ xs)
   unfolding entry_put
   holds-more = record {
     numbers = omega (arith, h.numbers);

@@ -37,10 +37,10 @@ module _ (s before p : List ℕ) (at entries texts : ℕ) (m : Measured s before
   next_at : drop (suc (length p)) (drop at s) ≡ drop (at + suc (length p)) s
   next_at = drop-drop (suc (length p)) at s
 
-  pub fits : at + length p < length s
+  fits : at + length p < length s
   fits = rw here (text-ends s at inside ended)
 
-  pub left : paths_in (drop at s) ≡ p ∷ paths_in (drop (at + suc (length p)) s)
+  left : paths_in (drop at s) ≡ p ∷ paths_in (drop (at + suc (length p)) s)
   left =
       let l : length (drop at s) ≡ length s - at = length-drop at s in
       rw (← next_at, here) (paths_in-next (drop at s) (omega (arith, text-ends s at inside ended)))

@@ -1,4 +1,4 @@
--- The loop that compares two paths. Assumes nothing.
+-- The loop that compares two paths: how many bytes of shared directories are found so far. Assumes nothing.
 use Rattle.std.specs.Prelude.{ℕ, zero, suc, ◌+◌, ◌<◌, ◌≤◌, ◌≡◌, refl, true, false, cond, List, [], ◌∷◌, length, drop, get_or, eqb}
 use Rattle.std.proofs.Common.{arith, drop-cons, eq-eqb, eqb-true}
 use Rattle.std.proofs.lemmas.List.{drop_all}

@@ -7,11 +7,11 @@ use Rattle.std.proofs.lemmas.List.Sums.{sum_by-cons}
 use Rattle.tree.specs.Table.{first_text}
 use Rattle.wish_list.specs.Paths.{paths_in, onto_path, is_zero}
 
-pub is_zero-suc : (b : ℕ) → is_zero (suc b) ≡ false
+is_zero-suc : (b : ℕ) → is_zero (suc b) ≡ false
 is_zero-suc b = grind (arith, nat_tests)
 
 -- a byte that is no zero byte goes to the first path
-pub paths_in-more : (b : ℕ) (s : List ℕ) → paths_in (suc b ∷ s) ≡ onto_path (suc b) (paths_in s)
+paths_in-more : (b : ℕ) (s : List ℕ) → paths_in (suc b ∷ s) ≡ onto_path (suc b) (paths_in s)
 unfolding paths_in
 paths_in-more b s = rw (is_zero-suc b)
 

@@ -95,7 +95,7 @@ bytes-front (x ∷ path) zero h = refl
 bytes-front (x ∷ path) (suc n) h = bytes-same x x path (take n path) refl ∙ bytes-front path n (omega arith)
 
 -- `<=` tests it the other way round
-pub le-below : (path last : List ℕ) (r : Bool) → r ≡ is_some_and is_le (slice_partial_cmp (λ x y. Some (nat_cmp x y)) path last) → r ≡ not (is_below last path)
+le-below : (path last : List ℕ) (r : Bool) → r ≡ is_some_and is_le (slice_partial_cmp (λ x y. Some (nat_cmp x y)) path last) → r ≡ not (is_below last path)
 le-below = same_from_slice_cmp_tested nat_cmp is_le (λ xs ys. not (is_below ys xs)) refl (λ _ _. refl) (λ _ _. refl) step
   where
     step : (x y : ℕ) (xs ys : List ℕ) (o : Ordering) → o ≡ nat_cmp x y → MatchOrdering o (not (is_below (y ∷ ys) (x ∷ xs)) ≡ true) (not (is_below (y ∷ ys) (x ∷ xs)) ≡ not (is_below ys xs)) (not (is_below (y ∷ ys) (x ∷ xs)) ≡ false)
@@ -118,7 +118,7 @@ common-within_last (x ∷ last) [] = omega arith
 common-within_last (x ∷ last) (y ∷ path) = let r = common-within_last last path in grind (arith, nat_tests)
 
 -- there is a byte behind it
-pub common-within : (last path : List ℕ) → is_below last path ≡ true → common_length last path < length path
+common-within : (last path : List ℕ) → is_below last path ≡ true → common_length last path < length path
 common-within [] [] h = absurd (false≢true h)
 common-within [] (y ∷ path) h = omega arith
 common-within (x ∷ last) [] h = absurd (false≢true h)

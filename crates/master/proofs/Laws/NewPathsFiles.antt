@@ -30,7 +30,7 @@ front-join (suc n) (x ∷ y ∷ names) h = rw (append_assoc x (0x2F ∷ front_of
 
 -- ---- files among some entries
 
-pub files_from-append : (nodes : List Node) (k m a b n : ℕ) → k + a ≡ m → a + b ≡ n → files_from nodes k n ≡ files_from nodes k a ++ files_from nodes m b
+files_from-append : (nodes : List Node) (k m a b n : ℕ) → k + a ≡ m → a + b ≡ n → files_from nodes k n ≡ files_from nodes k a ++ files_from nodes m b
 unfolding files_from
 files_from-append nodes k m zero b n e f = let k≡ : k ≡ m = omega arith in let n≡ : n ≡ b = omega arith in rw (k≡, n≡)
 files_from-append nodes k m (suc a) b zero e f = absurd (omega arith)
@@ -77,7 +77,7 @@ tree-root : (ws : List Wish) → get_or (tree ws) 0 empty_root ≡ directory [] 
 unfolding tree
 tree-root ws = refl
 
-pub files_in-tree : (ws : List Wish) → AllNamed ws → files_in (tree ws) ≡ files_of ws
+files_in-tree : (ws : List Wish) → AllNamed ws → files_in (tree ws) ≡ files_of ws
 unfolding files_from
 files_in-tree ws named = rw (length-tree ws, tree-root ws) (tree_from-files (tree ws) 1 [] ws named (tree-stands ws) (tree-paths ws named))
 

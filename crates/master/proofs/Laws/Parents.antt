@@ -69,7 +69,7 @@ module _ {nodes : List Node} {k i next : ℕ} {names : List (List ℕ)} {ws : Li
   }
 
 -- the entry is nested in the innermost one
-pub around-parent : (nodes : List Node) (k i next : ℕ) (names : List (List ℕ)) (ws : List Wish) → (a : Around nodes k i next names ws k) → k < next → parent_of nodes k ≡ a.at
+around-parent : (nodes : List Node) (k i next : ℕ) (names : List (List ℕ)) (ws : List Wish) → (a : Around nodes k i next names ws k) → k < next → parent_of nodes k ≡ a.at
 around-parent nodes k i next names ws a h =
     parent_is nodes k a.at (a.before, rw a.node (lt-ltb k (next + below i names ws) (omega arith))) (λ j p q. ended k (get_or nodes j empty_root) (a.ends j p q))
 

@@ -29,7 +29,7 @@ abbrev pub HaveAllPassed : List (List ℕ) → List (List ℕ) → Type 0
 HaveAllPassed before [] = Unit {0}
 HaveAllPassed before (path ∷ paths) = HasPassed before path × HaveAllPassed (path ∷ before) paths
 
-pub path-passed : (before : List (List ℕ)) (path : List ℕ) → path_verdict before path ≡ Ok tt → HasPassed before path
+path-passed : (before : List (List ℕ)) (path : List ℕ) → path_verdict before path ≡ Ok tt → HasPassed before path
 unfolding path_verdict
 path-passed before path e =
     let e₁ = refuse-passed (ltb 1024 (length path)) LimitOrMemory _ e in
@@ -45,7 +45,7 @@ path-passed before path e =
       unused = e₅.0;
     }
 
-pub paths-passed : (before paths : List (List ℕ)) → paths_verdict before paths ≡ Ok tt → HaveAllPassed before paths
+paths-passed : (before paths : List (List ℕ)) → paths_verdict before paths ≡ Ok tt → HaveAllPassed before paths
 unfolding paths_verdict
 paths-passed before [] e = tt
 paths-passed before (path ∷ paths) e =
@@ -82,7 +82,7 @@ tail_words : (s : List ℕ) → AllWords s → AllWords (tail s)
 tail_words [] a i = a 0
 tail_words (x ∷ s) a i = a (suc i)
 
-pub wishes-good : (before paths : List (List ℕ)) (sizes offsets : List ℕ) → HaveAllPassed before paths → AllWords sizes → AllWords offsets → AllGoodWishes (wishes paths sizes offsets)
+wishes-good : (before paths : List (List ℕ)) (sizes offsets : List ℕ) → HaveAllPassed before paths → AllWords sizes → AllWords offsets → AllGoodWishes (wishes paths sizes offsets)
 unfolding wishes
 wishes-good before [] sizes offsets p a b = tt
 wishes-good before (path ∷ paths) sizes offsets p a b = (

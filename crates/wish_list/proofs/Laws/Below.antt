@@ -19,7 +19,7 @@ common-less (a ∷ b ∷ xs) (c ∷ d ∷ ys) h = go (are_same_bytes a c) (commo
     go true ih = omega arith
     go false ih = omega arith
 
-pub common-less_before : (before names : List (List ℕ)) → 0 < length before → common before names < length before
+common-less_before : (before names : List (List ℕ)) → 0 < length before → common before names < length before
 unfolding common
 common-less_before [] names h = h
 common-less_before (a ∷ []) names h = h
@@ -85,7 +85,7 @@ below-files before (w ∷ ws) h = omega (arith, below-zero before w ws, added-le
 
 -- ---- lengths
 
-pub length-entries_from : (k n : ℕ) (names : List (List ℕ)) (w : Wish) (ws : List Wish) → length (entries_from k n names w ws) ≡ length names
+length-entries_from : (k n : ℕ) (names : List (List ℕ)) (w : Wish) (ws : List Wish) → length (entries_from k n names w ws) ≡ length names
 unfolding entries_from
 length-entries_from k n [] w ws = refl
 length-entries_from k n (name ∷ []) w ws = refl

@@ -30,14 +30,14 @@ texts_of-entries_from k n [] w ws = refl
 texts_of-entries_from k n (name ∷ []) w ws = refl
 texts_of-entries_from k n (name ∷ inner ∷ names) w ws = ap (λ (s : List ℕ). name ++ (0 ∷ s)) (texts_of-entries_from (suc k) (suc n) (inner ∷ names) w ws)
 
-pub texts_of-tree_from : (k : ℕ) (before : List (List ℕ)) (ws : List Wish) → texts_of (tree_from k before ws) ≡ added_texts before ws
+texts_of-tree_from : (k : ℕ) (before : List (List ℕ)) (ws : List Wish) → texts_of (tree_from k before ws) ≡ added_texts before ws
 unfolding tree_from texts_of added_texts
 texts_of-tree_from k before [] = refl
 texts_of-tree_from k before (w ∷ ws) =
     texts-append (entries_with k before w ws) (tree_from (k + added before w.names) w.names ws) ∙
     rw (texts_of-entries_from k (common before w.names) (drop (common before w.names) w.names) w ws, texts_of-tree_from (k + added before w.names) w.names ws)
 
-pub texts_of-tree : (ws : List Wish) → texts_of (tail (tree ws)) ≡ added_texts [] ws
+texts_of-tree : (ws : List Wish) → texts_of (tail (tree ws)) ≡ added_texts [] ws
 unfolding tree
 texts_of-tree ws = texts_of-tree_from 1 [] ws
 
@@ -56,7 +56,7 @@ unfolding name_texts name_texts_total
 length-name_texts [] = refl
 length-name_texts (name ∷ names) = omega (arith, length-append name (0 ∷ name_texts names), length-name_texts names)
 
-pub length-added_texts : (before : List (List ℕ)) (ws : List Wish) → length (added_texts before ws) ≡ texts_total before ws
+length-added_texts : (before : List (List ℕ)) (ws : List Wish) → length (added_texts before ws) ≡ texts_total before ws
 unfolding added_texts texts_total
 length-added_texts before [] = refl
 length-added_texts before (w ∷ ws) =
@@ -79,14 +79,14 @@ HaveSameNames [] (v ∷ vs) = ⊥
 HaveSameNames (w ∷ ws) [] = ⊥
 HaveSameNames (w ∷ ws) (v ∷ vs) = (w.names ≡ v.names) × HaveSameNames ws vs
 
-pub below-same : (n : ℕ) (before : List (List ℕ)) (ws vs : List Wish) → HaveSameNames ws vs → below n before ws ≡ below n before vs
+below-same : (n : ℕ) (before : List (List ℕ)) (ws vs : List Wish) → HaveSameNames ws vs → below n before ws ≡ below n before vs
 unfolding below
 below-same n before [] [] s = refl
 below-same n before [] (v ∷ vs) s = absurd s
 below-same n before (w ∷ ws) [] s = absurd s
 below-same n before (w ∷ ws) (v ∷ vs) s = rw (s.0, below-same n v.names ws vs s.1)
 
-pub texts_total-same : (before : List (List ℕ)) (ws vs : List Wish) → HaveSameNames ws vs → texts_total before ws ≡ texts_total before vs
+texts_total-same : (before : List (List ℕ)) (ws vs : List Wish) → HaveSameNames ws vs → texts_total before ws ≡ texts_total before vs
 unfolding texts_total
 texts_total-same before [] [] s = refl
 texts_total-same before [] (v ∷ vs) s = absurd s
@@ -99,19 +99,19 @@ shallow_paths-same [] (v ∷ vs) s = absurd s
 shallow_paths-same (w ∷ ws) [] s = absurd s
 shallow_paths-same (w ∷ ws) (v ∷ vs) s = rw (s.0, shallow_paths-same ws vs s.1)
 
-pub length-tree-same : (ws vs : List Wish) → HaveSameNames ws vs → length (tree ws) ≡ length (tree vs)
+length-tree-same : (ws vs : List Wish) → HaveSameNames ws vs → length (tree ws) ≡ length (tree vs)
 length-tree-same ws vs s = length-tree ws ∙ ap suc (below-same 0 [] ws vs s) ∙ sym (length-tree vs)
 
-pub texts-tree-same : (ws vs : List Wish) → HaveSameNames ws vs → length (texts_of (tail (tree ws))) ≡ length (texts_of (tail (tree vs)))
+texts-tree-same : (ws vs : List Wish) → HaveSameNames ws vs → length (texts_of (tail (tree ws))) ≡ length (texts_of (tail (tree vs)))
 texts-tree-same ws vs s = texts-tree ws ∙ texts_total-same [] ws vs s ∙ sym (texts-tree vs)
 
-pub encode-length-same : (ws vs : List Wish) → HaveSameNames ws vs → length (encode (tree ws)) ≡ length (encode (tree vs))
+encode-length-same : (ws vs : List Wish) → HaveSameNames ws vs → length (encode (tree ws)) ≡ length (encode (tree vs))
 encode-length-same ws vs s = omega (arith, length-encode (tree ws), length-encode (tree vs), length-tree-same ws vs s, texts-tree-same ws vs s)
 
-pub is_shallow-same : (ws vs : List Wish) → AllNamed ws → AllNamed vs → HaveSameNames ws vs → is_shallow (tree ws) ≡ is_shallow (tree vs)
+is_shallow-same : (ws vs : List Wish) → AllNamed ws → AllNamed vs → HaveSameNames ws vs → is_shallow (tree ws) ≡ is_shallow (tree vs)
 is_shallow-same ws vs n m s = tree-shallow ws n ∙ shallow_paths-same ws vs s ∙ sym (tree-shallow vs m)
 
-pub limits-same : (ws vs : List Wish) (words : ℕ) → AllNamed ws → AllNamed vs → HaveSameNames ws vs → limits (tree ws) words ≡ limits (tree vs) words
+limits-same : (ws vs : List Wish) (words : ℕ) → AllNamed ws → AllNamed vs → HaveSameNames ws vs → limits (tree ws) words ≡ limits (tree vs) words
 unfolding limits
 limits-same ws vs words n m s = rw (length-tree-same ws vs s, texts-tree-same ws vs s, is_shallow-same ws vs n m s)
 
@@ -130,7 +130,7 @@ unfolding wishes
 wishes-named [] sizes offsets = tt
 wishes-named (path ∷ paths) sizes offsets = (names_of-named path, wishes-named paths (tail sizes) (tail offsets))
 
-pub wishes-same : (paths : List (List ℕ)) (sizes offsets sizes' offsets' : List ℕ) → HaveSameNames (wishes paths sizes offsets) (wishes paths sizes' offsets')
+wishes-same : (paths : List (List ℕ)) (sizes offsets sizes' offsets' : List ℕ) → HaveSameNames (wishes paths sizes offsets) (wishes paths sizes' offsets')
 unfolding wishes
 wishes-same [] sizes offsets sizes' offsets' = tt
 wishes-same (path ∷ paths) sizes offsets sizes' offsets' = (refl, wishes-same paths (tail sizes) (tail offsets) (tail sizes') (tail offsets'))

@@ -1,4 +1,4 @@
--- The tree of a wish list is well formed, and no deeper than its paths. Assumes nothing.
+-- The tree of a wish list is well formed. Assumes nothing.
 use Rattle.std.specs.Prelude.{ℕ, zero, suc, ◌+◌, ◌-◌, ◌^◌, ◌<◌, ◌≤◌, ◌≡◌, refl, Bool, true, false, List, [], ◌∷◌, ◌++◌, length, drop, leb}
 use Rattle.std.proofs.Common.{ap, ◌∙◌, arith, leb-true, leb-false, le-leb, length-drop}
 use Rattle.std.proofs.lemmas.Bool.{lt-leb}
@@ -14,7 +14,7 @@ unfoldable pub ends : ℕ → List (List ℕ) → List Wish → ℕ → List ℕ
 ends k before ws zero = (k + below 0 before ws) ∷ []
 ends k before ws (suc m) = (k + below (suc m) before ws) ∷ ends k before ws m
 
-pub top-ends : (k : ℕ) (before : List (List ℕ)) (ws : List Wish) (m : ℕ) → top (ends k before ws m) ≡ k + below m before ws
+top-ends : (k : ℕ) (before : List (List ℕ)) (ws : List Wish) (m : ℕ) → top (ends k before ws m) ≡ k + below m before ws
 unfolding ends
 top-ends k before ws zero = refl
 top-ends k before ws (suc m) = refl
