@@ -10,7 +10,6 @@ use Rattle.tree.proofs.Laws.Nesting.{ended, parent_is}
 use Rattle.listing.specs.Lines.{ending, path_of}
 use Rattle.listing.proofs.Paths.{path-step}
 use Rattle.wish_list.specs.Tree.{Wish, common, below}
-use Rattle.wish_list.proofs.Laws.Below.{below-falls}
 use Rattle.master.specs.Inner.Entries.{front_of}
 
 -- ---- the first names of a path
@@ -36,13 +35,6 @@ front-shared (suc i) (a ∷ b ∷ xs) (c ∷ d ∷ ys) h = go (are_same_bytes a 
         a ++ (0x2F ∷ front_of i (b ∷ xs)) ≡ c ++ (0x2F ∷ front_of i (d ∷ ys))
     go true e h ih = rw (same-eq a c e, ih (omega arith))
     go false e h ih = absurd (omega arith)
-
-pub below-least : (i n : ℕ) (before : List (List ℕ)) (ws : List Wish) → i ≤ n → below n before ws ≤ below i before ws
-below-least i zero before ws h = let e : i ≡ 0 = omega arith in rw e (omega arith)
-below-least i (suc n) before ws h = ⊎_elim
-    (λ (l : i < suc n). omega (arith, below-falls n before ws, below-least i n before ws (omega arith)))
-    (λ (l : suc n ≤ i). let e : i ≡ suc n = omega arith in rw e (omega arith))
-    (lt-or-le i (suc n))
 
 -- ---- the directories around an entry
 

@@ -5,7 +5,7 @@ use Rattle.std.proofs.lemmas.Bool.{lt-leb}
 use Rattle.tree.specs.Table.{Node, top, dirs_open_at}
 use Rattle.tree.specs.Inner.WellFormed.{IsGoodName, IsSound, IsWellFormed}
 use Rattle.wish_list.specs.Tree.{Wish, common, added, below, entries_from, tree_from, tree}
-use Rattle.wish_list.proofs.Laws.Below.{common-less, common-most, added-least, below-in, below-out, below-zero, below-falls, below-most, length-tree_from}
+use Rattle.wish_list.proofs.Laws.Below.{common-less, common-most, added-least, below-in, below-out, below-zero, below-falls, below-least, length-tree_from}
 
 -- ---- the directories open where a file was written
 
@@ -97,7 +97,7 @@ entries-sound c k n next dirs (name ∷ inner ∷ names) w ws rest named all las
     let m : k + length (name ∷ inner ∷ names) ≡ next = last in
     let t : top (dirs_open_at k dirs) ≡ next + below n w.names ws = ap top opened ∙ top-ends next w.names ws n in (
       good.0,
-      rw m ((omega arith, omega (arith, below-most (suc n) w.names ws), omega (arith, below-falls n w.names ws))),
+      rw m ((omega arith, omega (arith, below-least 0 (suc n) w.names ws (omega arith)), omega (arith, below-falls n w.names ws))),
       rw (opened, m)
           (entries-sound c (suc k) (suc n) next ((next + below (suc n) w.names ws) ∷ ends next w.names ws n) (inner ∷ names) w ws rest (omega arith) (omega arith) (omega arith) whole good.1 offset size
           (none-closed (suc k) next w.names ws (suc n) (omega arith)) sound),
