@@ -1,5 +1,5 @@
 -- What a new master is refused for, test by test. Assumes nothing.
-use Rattle.std.specs.Prelude.{Ok, Err, ℕ, suc, ◌^◌, ◌<◌, ◌≤◌, ◌≡◌, refl, true, false, List, [], ◌∷◌, length}
+use Rattle.std.specs.Prelude.{Ok, Err, ℕ, suc, ◌^◌, ◌<◌, ◌≤◌, ◌≡◌, true, false, List, [], length}
 use Rattle.std.proofs.Common.{arith, ◌∙◌, lt-ltb, le-ltb}
 use Rattle.refusal.specs.declared.Refusal.{Refusal}
 use Rattle.refusal.specs.declared.Refusal.TheVariants.{LimitOrMemory, NotEnoughSpace}
@@ -8,8 +8,8 @@ use Rattle.tree.proofs.Laws.RoundTrip.{within-limits}
 use Rattle.tree.proofs.Laws.WrittenEntries.{length-encode}
 use Rattle.wish_list.specs.Paths.{paths_in, list_verdict}
 use Rattle.wish_list.specs.Tree.{Wish, wishes, below}
-use Rattle.wish_list.proofs.Laws.Below.{AllNamed, added-least, below-zero, length-tree}
-use Rattle.wish_list.proofs.Laws.NameTexts.{wishes-named}
+use Rattle.wish_list.proofs.Laws.Below.{below-files, length-tree}
+use Rattle.wish_list.proofs.Laws.NameTexts.{length-wishes, wishes-named}
 use Rattle.wish_list.proofs.Laws.AcceptedPaths.{list-accepted}
 use Rattle.placement.specs.Placement.{is_placeable}
 use Rattle.master.specs.Master.{Master, nodes_at, table_size, first_free, before_place, master_verdict}
@@ -44,18 +44,6 @@ module _ (m : Master) (room words bytes : ℕ) where
           granted e = rw (listed, limited, le-ltb bytes (table_size m) fits, le-ltb room m.disc_end holds, e)
 
 -- ---- a list within the limits has few files, and words for an offset of each
-
-below-files : (before : List (List ℕ)) (ws : List Wish) → AllNamed ws → length ws ≤ below 0 before ws
-below-files before [] h = omega arith
-below-files before (w ∷ ws) h = omega (arith, below-zero before w ws, added-least before w.names h.0, below-files w.names ws h.1)
-
-length-wishes : (paths : List (List ℕ)) (sizes offsets : List ℕ) → length (wishes paths sizes offsets) ≡ length paths
-unfolding wishes
-length-wishes [] sizes offsets = refl
-length-wishes (p ∷ ps) [] [] = rw (length-wishes ps [] [])
-length-wishes (p ∷ ps) [] (o ∷ os) = rw (length-wishes ps [] os)
-length-wishes (p ∷ ps) (s ∷ ss) [] = rw (length-wishes ps ss [])
-length-wishes (p ∷ ps) (s ∷ ss) (o ∷ os) = rw (length-wishes ps ss os)
 
 pub record Few (m : Master) (words : ℕ) : Type 0 where
   pub files : length m.sizes ≤ 16384

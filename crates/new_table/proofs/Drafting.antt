@@ -1,22 +1,22 @@
 -- The loop that writes the entries of a path, the last one first. Assumes nothing.
-use Rattle.std.specs.Prelude.{ℕ, suc, ◌+◌, ◌-◌, ◌*◌, ◌<◌, ◌≤◌, ◌≡◌, refl, false, cond, List, [], ◌∷◌, ◌++◌, length, take, drop, get_or}
-use Rattle.std.proofs.Common.{sym, ap, ◌∙◌, arith, eqb-true, take-append-drop, drop-drop, drop-cons, length-drop, length-append}
+use Rattle.std.specs.Prelude.{ℕ, suc, ◌+◌, ◌-◌, ◌<◌, ◌≤◌, ◌≡◌, refl, false, cond, List, [], ◌∷◌, ◌++◌, length, take, drop, get_or}
+use Rattle.std.proofs.Common.{sym, ap, ◌∙◌, arith, eqb-true, take-append-drop, drop-drop, drop-cons, length-drop}
 use Rattle.std.proofs.lemmas.List.{take_rest}
 use Rattle.std.proofs.lemmas.List.Sums.{sum_by-append}
-use Rattle.endian.specs.Bytes.{put, span}
-use Rattle.endian.specs.Laws.Stored.{length-put, length-span, get_d-span}
+use Rattle.endian.specs.Bytes.{span}
+use Rattle.endian.specs.Laws.Stored.{length-span, get_d-span}
 use Rattle.refusal.specs.Laws.Tests.{is_false}
-use Rattle.tree.specs.Table.{Node, file, directory, name_of, node_bytes}
-use Rattle.tree.proofs.Laws.WrittenEntries.{length-node_bytes}
+use Rattle.tree.specs.Table.{file, directory}
 use Rattle.wish_list.specs.Paths.{is_slash, names_of}
+use Rattle.wish_list.proofs.Laws.NameTexts.{names_of-named}
 use Rattle.new_table.specs.Inner.Cuts.{IsCut}
 use Rattle.new_table.specs.Inner.Steps.{slashes}
 use Rattle.new_table.specs.Inner.Drafts.{entry_put, entries_put, path_entries, HasRoom}
-use Rattle.new_table.proofs.Names.{length-names_of, some-names}
+use Rattle.new_table.proofs.Names.{length-names_of}
 
 -- ---- a name has no `/`
 
-pub slashes-append : (xs ys : List ℕ) → slashes (xs ++ ys) ≡ slashes xs + slashes ys
+slashes-append : (xs ys : List ℕ) → slashes (xs ++ ys) ≡ slashes xs + slashes ys
 slashes-append xs ys = sum_by-append (λ (b : ℕ). cond (is_slash b) 1 0) xs ys
 
 pub slashes-split : (i : ℕ) (path : List ℕ) → slashes (take i path) + slashes (drop i path) ≡ slashes path
@@ -51,15 +51,6 @@ cut-part b path start end h l e =
     let m : start + (end - start) ≡ end = omega arith in
     let d : drop (end - start) (drop start path) ≡ b ∷ drop (suc end) path = drop-drop (end - start) start path ∙ rw (m, drop-cons path end 0 l, e) refl in
     sym (take-append-drop (end - start) (drop start path)) ∙ ap (λ (l : List ℕ). span path start (end - start) ++ l) d
-
--- ---- what is written keeps the length
-
-pub length-entry_put : (texts k text : ℕ) (x : Node) (bytes : List ℕ) → 12 * k + 12 ≤ length bytes → text + suc (length (name_of x)) ≤ length bytes → length (entry_put texts k text x bytes) ≡ length bytes
-unfolding entry_put
-length-entry_put texts k text x bytes a b =
-    let n : length (name_of x ++ (0 ∷ [])) ≡ suc (length (name_of x)) = omega (arith, length-append (name_of x) (0 ∷ [])) in
-    let p : length (put bytes text (name_of x ++ (0 ∷ []))) ≡ length bytes = length-put bytes text (name_of x ++ (0 ∷ [])) (omega arith) in
-    length-put (put bytes text (name_of x ++ (0 ∷ []))) (12 * k) (node_bytes 0 (text - texts) x) (omega (arith, length-node_bytes 0 (text - texts) x)) ∙ p
 
 -- ---- the loop: the path's names from `start` on are written
 
@@ -115,7 +106,7 @@ module _ (old path ends : List ℕ) (texts shared last behind offset size : ℕ)
       slashes-parts : slashes (drop start' path) ≡ suc (slashes (drop start path))
       slashes-parts = omega (arith, length-names_of (drop start' path), length-names_of (drop start path), ap length names-parts)
 
-      pub name-length : length name ≡ start - 1 - start'
+      name-length : length name ≡ start - 1 - start'
       name-length = length-span path start' (start - 1 - start') (omega (arith, c.before, d.within))
 
       pub some-directory : 0 < n
@@ -139,7 +130,7 @@ module _ (old path ends : List ℕ) (texts shared last behind offset size : ℕ)
             directories = omega (arith, d.directories, slashes-split start path, slashes-split start' path, slashes-parts);
             entries = omega (arith, d.entries, slashes-parts);
             names = omega (arith, d.names, name-length, c.before, d.within);
-            written = rw (names-parts, entries-more n' m (names_of (drop start path)) (some-names (drop start path)), e', t', ← d.written) w;
+            written = rw (names-parts, entries-more n' m (names_of (drop start path)) (names_of-named (drop start path)), e', t', ← d.written) w;
           }
 
       -- it fits, if the whole path does
@@ -154,10 +145,3 @@ module _ (old path ends : List ℕ) (texts shared last behind offset size : ℕ)
             within = omega (arith, d.names, r.within);
             small = omega (arith, d.names, r.small);
           }
-
--- all of them
-pub drafted-all : (old path ends : List ℕ) (texts shared last behind offset size start n entry text : ℕ) (bytes : List ℕ) → Drafted old path ends texts shared last behind offset size start n entry text bytes → start ≤ shared →
-    (entry + suc (slashes (drop shared path)) ≡ last) × (text + suc (length path - shared) ≡ behind) × (bytes ≡ entries_put texts entry text (path_entries ends (slashes (take shared path)) (names_of (drop shared path)) offset size) old)
-drafted-all old path ends texts shared last behind offset size start n entry text bytes d h =
-    let e : start ≡ shared = omega (arith, d.after) in
-    (rw e at d.entries, rw e at d.names, rw (← e, ← d.directories) d.written)

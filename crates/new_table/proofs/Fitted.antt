@@ -1,21 +1,16 @@
 -- What a measured table gives its writer. Assumes nothing.
-use Rattle.std.specs.Prelude.{IsTrue, is_ok}
-use Rattle.std.specs.Prelude.{ℕ, ◌+◌, ◌*◌, ◌≤◌, ◌≡◌, List, [], ◌∷◌, length}
+use Rattle.std.specs.Prelude.{IsTrue, is_ok, ℕ, ◌+◌, ◌*◌, ◌≤◌, ◌≡◌, List, [], length}
 use Rattle.std.proofs.Common.{sym, ◌∙◌, arith}
 use Rattle.tree.specs.Table.{encode, limits}
 use Rattle.tree.proofs.Laws.RoundTrip.{Within, within-limits}
 use Rattle.wish_list.specs.Paths.{paths_in}
-use Rattle.new_table.specs.Inner.Steps.{entries_behind}
+use Rattle.wish_list.specs.Tree.{wishes}
+use Rattle.wish_list.proofs.Laws.Below.{below-files, length-tree}
+use Rattle.wish_list.proofs.Laws.NameTexts.{length-wishes, wishes-named}
 use Rattle.new_table.specs.Trees.{tree_of}
 use Rattle.new_table.proofs.Lists.{ok-is}
 use Rattle.new_table.proofs.Limits.{tree-entries, tree-texts, tree-size, tree-depth}
 use Rattle.new_table.proofs.Going.{Fitting}
-
--- each path brings an entry
-paths-most : (before : List ℕ) (paths : List (List ℕ)) → length paths ≤ entries_behind before paths
-unfolding entries_behind
-paths-most before [] = omega arith
-paths-most before (path ∷ paths) = omega (arith, paths-most path paths)
 
 module _
     (paths sizes : List ℕ) (count size : ℕ)
@@ -27,7 +22,9 @@ module _
   few = omega (arith, small.few)
 
   pub few_paths : length (paths_in paths) ≤ 16384
-  few_paths = omega (arith, paths-most [] (paths_in paths), small.few, tree-entries (paths_in paths) sizes [])
+  few_paths =
+      let ws = wishes (paths_in paths) sizes [] in
+      omega (arith, length-wishes (paths_in paths) sizes [], below-files [] ws (wishes-named (paths_in paths) sizes []), length-tree ws, small.few)
 
   pub fitting : Fitting paths count size
   fitting = record {

@@ -2,10 +2,12 @@
 use Rattle.std.specs.Prelude.{ℕ, suc, ◌+◌, ◌-◌, ◌<◌, ◌≤◌, ◌≡◌, refl, Bool, true, false, cond, List, [], ◌∷◌, ◌++◌, length, take, drop, get_or}
 use Rattle.std.specs.List.{list_all}
 use Rattle.std.proofs.Common.{sym, ap, ◌∙◌, ⊎_elim, arith, eqb-true, leb-true, take-append-drop, get_or-take, length-take-le, length-append, append_assoc, take_at}
+use Rattle.std.proofs.lemmas.List.{nil_from_length}
 use Rattle.endian.specs.Bytes.{span}
 use Rattle.endian.specs.Laws.Stored.{get_d-span}
 use Rattle.refusal.specs.Laws.Tests.{is_false, lt-or-le, and_left, and_right}
 use Rattle.wish_list.specs.Paths.{is_zero, paths_in, onto_path}
+use Rattle.wish_list.proofs.Cutting.{length-onto_path}
 use Rattle.new_table.specs.Inner.Cuts.{IsCut, IsPathBefore}
 use Rattle.new_table.specs.Inner.Steps.{slashes, entries_behind, texts_behind, is_shallow_path}
 use Rattle.new_table.proofs.Drafting.{cut-part}
@@ -15,16 +17,9 @@ use Rattle.new_table.proofs.Drafting.{cut-part}
 abbrev pub Ended : List ℕ → Type 0
 Ended s = get_or s (length s - 1) 0 ≡ 0
 
-not-zero : (x : ℕ) → is_zero x ≡ true → x ≡ 0
-not-zero x e = eqb-true x 0 e
-
 onto_path-append : (x : ℕ) (ps qs : List (List ℕ)) → 0 < length ps → onto_path x (ps ++ qs) ≡ onto_path x ps ++ qs
 onto_path-append x [] qs h = absurd (omega arith)
 onto_path-append x (p ∷ ps) qs h = refl
-
-length-onto_path : (x : ℕ) (ps : List (List ℕ)) → length (onto_path x ps) ≡ length ps
-length-onto_path x [] = refl
-length-onto_path x (p ∷ ps) = refl
 
 ended-rest : (x y : ℕ) (s : List ℕ) → Ended (x ∷ y ∷ s) → Ended (y ∷ s)
 ended-rest x y s e =
@@ -42,7 +37,7 @@ some-paths (x ∷ y ∷ s) h e = go (is_zero x) (some-paths (y ∷ s) (omega ari
     go true ih = omega arith
     go false ih = omega (arith, length-onto_path x (paths_in (y ∷ s)))
 
-pub paths_in-append : (s r : List ℕ) → Ended s → paths_in (s ++ r) ≡ paths_in s ++ paths_in r
+paths_in-append : (s r : List ℕ) → Ended s → paths_in (s ++ r) ≡ paths_in s ++ paths_in r
 unfolding paths_in
 paths_in-append [] r e = refl
 paths_in-append (x ∷ []) r e = rw e refl
@@ -60,7 +55,7 @@ paths_in-path : (p r : List ℕ) → NoZero p → paths_in (p ++ (0 ∷ r)) ≡ 
 unfolding paths_in
 paths_in-path [] r f = refl
 paths_in-path (x ∷ p) r f =
-    let z : is_zero x ≡ false = is_false (is_zero x) (λ e. f 0 (omega arith) (not-zero x e)) in
+    let z : is_zero x ≡ false = is_false (is_zero x) (λ e. f 0 (omega arith) (eqb-true x 0 e)) in
     rw z (ap (onto_path x) (paths_in-path p r (λ i h. f (suc i) (omega arith))))
 
 -- ---- a place behind a zero byte, and the path before it
@@ -77,7 +72,7 @@ module _ (s : List ℕ) (end : ℕ) (path : List ℕ) (a : At s end path) where
       ⊎_elim (λ (h : 0 < end). rw l (get_or-take end s (end - 1) 0 (omega arith) ∙ a.ended h))
       (λ (h : end ≤ 0). let z : end ≡ 0 = omega arith in rw z refl) (lt-or-le 0 end)
 
-  pub both : paths_in s ≡ paths_in (take end s) ++ paths_in (drop end s)
+  both : paths_in s ≡ paths_in (take end s) ++ paths_in (drop end s)
   both = ap paths_in (sym (take-append-drop end s)) ∙ paths_in-append (take end s) (drop end s) front-ended
 
   module _ (some : 0 < end) where
@@ -105,10 +100,10 @@ module _ (s : List ℕ) (end : ℕ) (path : List ℕ) (a : At s end path) where
     rest-is = ap paths_in behind ∙ paths_in-path path (drop end s) plain
 
     -- the place before it
-    pub start-within : start ≤ length s
+    start-within : start ≤ length s
     start-within = omega (arith, a.within)
 
-    pub start-ended : 0 < start → get_or s (start - 1) 0 ≡ 0
+    start-ended : 0 < start → get_or s (start - 1) 0 ≡ 0
     start-ended h = ((a.before).cut some).cut h
 
     front : take end s ≡ take start s ++ (path ++ (0 ∷ []))
@@ -139,15 +134,11 @@ unfolding last_or
 last_or-push b [] q = refl
 last_or-push b (p ∷ ps) q = last_or-push p ps q
 
-pub no-bytes : (s : List ℕ) → length s ≡ 0 → s ≡ []
-no-bytes [] h = refl
-no-bytes (x ∷ s) h = absurd (omega arith)
-
 last-is : (s : List ℕ) (end : ℕ) (path : List ℕ) → At s end path → last_or [] (paths_in (take end s)) ≡ path
 unfolding last_or paths_in
 last-is s end path a =
     ⊎_elim (λ (h : 0 < end). ap (last_or []) (front-is s end path a h) ∙ last_or-push [] (paths_in (take (end - suc (length path)) s)) path)
-    (λ (h : end ≤ 0). let z : end ≡ 0 = omega arith in rw z (sym (no-bytes path ((a.before).first z)))) (lt-or-le 0 end)
+    (λ (h : end ≤ 0). let z : end ≡ 0 = omega arith in rw z (sym (nil_from_length path ((a.before).first z)))) (lt-or-le 0 end)
 
 entries-append : (b : List ℕ) (ps qs : List (List ℕ)) → entries_behind b (ps ++ qs) ≡ entries_behind b ps + entries_behind (last_or b ps) qs
 unfolding entries_behind last_or
@@ -184,7 +175,7 @@ module _ (s : List ℕ) (end : ℕ) (path : List ℕ) (a : At s end path) where
       (λ (h : 0 < end).
       let f : list_all is_shallow_path ((paths_in (take (end - suc (length path)) s) ++ (path ∷ [])) ++ paths_in (drop end s)) ≡ true = rw (both s end path a, front-is s end path a h) at e in
       leb-true (slashes path) 64 (shallow-last (paths_in (take (end - suc (length path)) s)) (paths_in (drop end s)) path f))
-      (λ (h : end ≤ 0). let z : end ≡ 0 = omega arith in rw (no-bytes path ((a.before).first z)) (omega arith)) (lt-or-le 0 end)
+      (λ (h : end ≤ 0). let z : end ≡ 0 = omega arith in rw (nil_from_length path ((a.before).first z)) (omega arith)) (lt-or-le 0 end)
 
   -- at the start, if no path is left
   pub at-start : length (paths_in s) ≤ length (paths_in (drop end s)) → end ≡ 0

@@ -2,24 +2,25 @@
 use Rattle.std.specs.Prelude.{ℕ, zero, suc, ◌+◌, ◌-◌, ◌*◌, ◌^◌, ◌<◌, ◌≤◌, ◌≡◌, refl, true, List, [], ◌∷◌, ◌++◌, length, take, drop, get_or}
 use Rattle.std.specs.List.{list_all}
 use Rattle.std.proofs.Common.{sym, ap, ◌∙◌, ⊎_elim, arith, add-zero, get_or-drop, length-drop, length-append}
-use Rattle.std.proofs.lemmas.List.{drop_all}
+use Rattle.std.proofs.lemmas.List.{drop_all, nil_from_length}
 use mathlib.Core.List.{tail}
 use Rattle.refusal.specs.Laws.Tests.{lt-or-le}
 use Rattle.tree.specs.Table.{Node, directory, node_bytes, texts_of}
+use Rattle.tree.proofs.Laws.Writing.{texts-append}
 use Rattle.wish_list.specs.Paths.{paths_in, names_of}
 use Rattle.wish_list.specs.Tree.{Wish, wishes, common, added, below, entries_from, entries_with, tree_from, tree}
 use Rattle.wish_list.proofs.Laws.Below.{common-less, below-in, below-out, length-entries_with, length-tree_from, length-tree}
-use Rattle.wish_list.proofs.Laws.NameTexts.{texts_of-append, texts_of-entries_from, length-name_texts, name_texts_total, texts-tree_from}
+use Rattle.wish_list.proofs.Laws.NameTexts.{names_of-named, texts_of-entries_from, length-name_texts, name_texts_total, texts-tree_from}
 use Rattle.endian.specs.Bytes.{put}
 use Rattle.new_table.specs.Trees.{tree_of}
 use Rattle.new_table.specs.Inner.Cuts.{IsPathBefore}
 use Rattle.new_table.specs.Inner.Steps.{slashes, shared_bytes, own_part, entries_behind, texts_behind, is_shallow_path}
 use Rattle.new_table.specs.Inner.Drafts.{entries_put, path_entries, draft_bytes, HasRoom}
-use Rattle.new_table.proofs.Names.{length-names_of, some-names, Shares, shares, added-bytes}
+use Rattle.new_table.proofs.Names.{length-names_of, Shares, shares, added-bytes}
 use Rattle.new_table.proofs.Limits.{tree-entries, entries_behind-below, texts_behind-total, name_texts_total-names_of}
 use Rattle.new_table.proofs.Drafting.{slashes-split}
 use Rattle.new_table.proofs.Holding.{Holds, holds-none, holds-entries, holds-all}
-use Rattle.new_table.proofs.Fronts.{At, rest-is, entries-most, texts-most, shallow-at, at-before, at-start, no-bytes}
+use Rattle.new_table.proofs.Fronts.{At, rest-is, entries-most, texts-most, shallow-at, at-before, at-start}
 
 -- a measured list of paths, within the limits
 pub record Fitting (paths : List ℕ) (count size : ℕ) : Type 0 where
@@ -85,7 +86,7 @@ path_entries-from ends next k n (name ∷ inner ∷ names) w ws e l f =
 module _
     (paths sizes offsets : List ℕ) (count size i end : ℕ) (path ends : List ℕ) (entry text : ℕ) (bytes : List ℕ)
     (f : Fitting paths count size) (g : Going paths sizes offsets count size i end path ends entry text bytes) (some : 0 < i) where
-  pub end-some : 0 < end
+  end-some : 0 < end
   end-some =
       ⊎_elim (λ (h : 0 < end). h)
       (λ (h : end ≤ 0).
@@ -93,11 +94,8 @@ module _
       let n : i + length (paths_in paths) ≡ length (paths_in paths) = rw z at g.number in
       absurd (omega arith)) (lt-or-le 0 end)
 
-  pub path-fits : length path < end
-  path-fits = ((g.place).before).within end-some
-
   module _ (end' : ℕ) (before : List ℕ) (e : end' ≡ end - suc (length path)) (b : IsPathBefore paths end' before) where
-    pub place-next : At paths end' before
+    place-next : At paths end' before
     place-next = at-before paths end path g.place end-some end' before e b
 
     rest-next : paths_in (drop end' paths) ≡ path ∷ paths_in (drop end paths)
@@ -151,7 +149,7 @@ module _
 
       is-common : common (names_of before) (names_of path) ≡ slashes (take (shared_bytes before path) path)
       is-common =
-          omega (arith, added-bytes before path, common-less (names_of before) (names_of path) (some-names path), length-names_of path, slashes-split (shared_bytes before path) path)
+          omega (arith, added-bytes before path, common-less (names_of before) (names_of path) (names_of-named path), length-names_of path, slashes-split (shared_bytes before path) path)
 
       -- the entries that this path brings
       abbrev xs : ℕ → List Node
@@ -184,7 +182,7 @@ module _
 
       texts-next : (entry' : ℕ) → length (texts_of (xs entry' ++ tree_from entry (names_of path) ws)) ≡ suc (length (own_part before path)) + length (texts_of (tree_from entry (names_of path) ws))
       texts-next entry' =
-          omega (arith, ap length (texts_of-append (xs entry') (tree_from entry (names_of path) ws)), length-append (texts_of (xs entry')) (texts_of (tree_from entry (names_of path) ws)), texts-xs entry')
+          omega (arith, ap length (texts-append (xs entry') (tree_from entry (names_of path) ws)), length-append (texts_of (xs entry')) (texts_of (tree_from entry (names_of path) ws)), texts-xs entry')
 
       pub going-more : (r entry' text' : ℕ) (ends' bytes' : List ℕ) → r ≡ shared_bytes before path → entry' + suc (slashes (drop r path)) ≡ entry → text' + suc (length path - r) ≡ text →
           bytes' ≡ entries_put (12 * count) entry' text' (path_entries ends (slashes (take r path)) (names_of (drop r path)) (get_or offsets i' 0) (get_or sizes i' 0)) bytes →
@@ -227,7 +225,7 @@ pub going-all : (paths sizes offsets : List ℕ) (count size i end : ℕ) (path 
 unfolding tree
 going-all paths sizes offsets count size i end path ends entry text bytes f g z =
     let e : end ≡ 0 = at-start paths end path g.place (omega (arith, g.number)) in
-    let p : path ≡ [] = no-bytes path (((g.place).before).first e) in
+    let p : path ≡ [] = nil_from_length path (((g.place).before).first e) in
     let n : entry + entries_behind [] (paths_in paths) ≡ count = rw (p, e) at (entry-going paths sizes offsets count size i end path ends entry text bytes g) in
     let t : text + texts_behind [] (paths_in paths) ≡ size = rw (p, e) at (text-going paths sizes offsets count size i end path ends entry text bytes g) in
     let one : entry ≡ 1 = omega (arith, f.counted) in

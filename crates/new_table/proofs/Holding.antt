@@ -1,9 +1,9 @@
 -- The entries that are written so far, and one more before them. Assumes nothing.
-use Rattle.std.specs.Prelude.{ℕ, zero, suc, ◌+◌, ◌-◌, ◌*◌, ◌≤◌, ◌≡◌, refl, List, [], ◌∷◌, ◌++◌, length, take, drop}
-use Rattle.std.proofs.Common.{sym, ap, ◌∙◌, inl, inr, arith, le-ltb, drop-drop, length-append, append_assoc}
-use Rattle.std.proofs.Math.Seq.{take-add}
+use Rattle.std.specs.Prelude.{ℕ, zero, suc, ◌+◌, ◌-◌, ◌*◌, ◌≤◌, ◌≡◌, refl, List, [], ◌∷◌, ◌++◌, length, take}
+use Rattle.std.proofs.Common.{sym, ap, ◌∙◌, inl, inr, arith, le-ltb, length-append, append_assoc}
 use Rattle.endian.specs.Bytes.{put, span}
 use Rattle.endian.specs.Laws.Stored.{length-put, span-put, span_ext, put-outside}
+use Rattle.endian.proofs.Parts.{span-add}
 use Rattle.tree.specs.Table.{Node, name_of, parent_below, parent_of, node_bytes, entries_bytes, texts_of}
 use Rattle.tree.proofs.Laws.WrittenEntries.{length-node_bytes}
 use Rattle.new_table.specs.Inner.Drafts.{entry_put, entries_put, draft_bytes}
@@ -19,10 +19,6 @@ span-put_after : (s : List ℕ) (at : ℕ) (bs : List ℕ) (m n : ℕ) → at + 
 span-put_after s at bs m n h f =
     let l : length (put s at bs) ≡ length s = length-put s at bs (omega arith) in
     span_ext (put s at bs) s m n (omega arith) (omega arith) (λ i p. put-outside s at bs (omega arith) (m + i) (inr (omega arith)))
-
--- two parts, one right behind the other
-span-add : (s : List ℕ) (at m n : ℕ) → span s at (m + n) ≡ span s at m ++ span s (at + m) n
-span-add s at m n = take-add m n (drop at s) ∙ ap (λ (l : List ℕ). take m (drop at s) ++ take n l) (drop-drop m at s)
 
 -- ---- with no entries to look for a parent among, each parent is 0
 
@@ -104,7 +100,7 @@ module _ (bytes : List ℕ) (count entry next text behind : ℕ) (x : Node) (xs 
       let o : text - 12 * count + suc (length (name_of x)) ≡ behind - 12 * count = omega arith in
       rw (parent_of-none entry, o, one) refl
 
-  pub holds-more : Holds (entry_put (12 * count) entry text x bytes) count entry text (x ∷ xs)
+  holds-more : Holds (entry_put (12 * count) entry text x bytes) count entry text (x ∷ xs)
   unfolding entry_put
   holds-more = record {
     numbers = omega (arith, h.numbers);

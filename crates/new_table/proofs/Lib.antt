@@ -1,3 +1,4 @@
+-- What the proofs of the functions cite.
 mod Names
 mod Measuring
 mod Drafting

@@ -1,6 +1,5 @@
 -- The limits of the tree of some paths, counted in their bytes. Assumes nothing.
-use Rattle.std.specs.Prelude.{Ok, Err}
-use Rattle.std.specs.Prelude.{ℕ, suc, ◌+◌, ◌*◌, ◌<◌, ◌≤◌, ◌≡◌, refl, Bool, true, false, cond, not, ◌&&◌, List, [], ◌∷◌, length, drop, get_or, leb, ltb}
+use Rattle.std.specs.Prelude.{Ok, Err, ℕ, suc, ◌+◌, ◌*◌, ◌<◌, ◌≤◌, ◌≡◌, refl, Bool, true, false, cond, not, ◌&&◌, List, [], ◌∷◌, length, drop, get_or, leb, ltb}
 use Rattle.std.specs.List.{list_all, onto_first}
 use Rattle.std.proofs.Common.{sym, ◌∙◌, arith, leb-true, leb-false, le-leb, le-ltb, lt-ltb}
 use mathlib.Core.List.{tail}
@@ -57,7 +56,7 @@ leb-pred n = same_test (leb (suc n) 65) (leb n 64) (λ e. le-leb n 64 (omega (ar
 shallow-bytes : (path : List ℕ) → leb (length (names_of path)) 65 ≡ is_shallow_path path
 shallow-bytes path = rw (length-names_of path) (leb-pred (slashes path))
 
-pub all-shallow : (paths : List (List ℕ)) (sizes offsets : List ℕ) → list_all shallow.is_shallow_path (wishes paths sizes offsets) ≡ list_all is_shallow_path paths
+all-shallow : (paths : List (List ℕ)) (sizes offsets : List ℕ) → list_all shallow.is_shallow_path (wishes paths sizes offsets) ≡ list_all is_shallow_path paths
 unfolding wishes
 all-shallow [] sizes offsets = refl
 all-shallow (path ∷ paths) sizes offsets = rw (shallow-bytes path, all-shallow paths (tail sizes) (tail offsets))
@@ -84,7 +83,7 @@ pub small-texts : (paths : List (List ℕ)) → is_small paths ≡ true → text
 unfolding is_small
 small-texts paths e = leb-true _ _ (and_left (leb (texts_behind [] paths) 1048576) _ (and_right (leb (suc (entries_behind [] paths)) 16384) _ e))
 
-pub small-shallow : (paths : List (List ℕ)) → is_small paths ≡ true → list_all is_shallow_path paths ≡ true
+small-shallow : (paths : List (List ℕ)) → is_small paths ≡ true → list_all is_shallow_path paths ≡ true
 unfolding is_small
 small-shallow paths e = and_right (leb (texts_behind [] paths) 1048576) _ (and_right (leb (suc (entries_behind [] paths)) 16384) _ e)
 

@@ -1,6 +1,5 @@
 -- What the tests of a wish list give. Assumes nothing.
-use Rattle.std.specs.Prelude.{Ok, Err, IsTrue, is_ok}
-use Rattle.std.specs.Prelude.{ℕ, suc, ◌-◌, ◌≡◌, refl, Bool, true, false, not, ◌&&◌, List, [], ◌∷◌, length, get_or, ltb}
+use Rattle.std.specs.Prelude.{Ok, Err, IsTrue, is_ok, ℕ, suc, ◌-◌, ◌≡◌, refl, Bool, true, false, not, ◌&&◌, List, [], ◌∷◌, length, get_or, ltb}
 use Rattle.std.proofs.Common.{arith, lt-ltb, eqb-true}
 use Rattle.std.proofs.lemmas.Bool.{false≢true}
 use Rattle.refusal.specs.Refusal.{Verdict}

@@ -1,24 +1,15 @@
 -- The loop that measures: what is measured and what is left make the whole. Assumes nothing.
-use Rattle.std.specs.Prelude.{ℕ, zero, suc, ◌+◌, ◌-◌, ◌*◌, ◌<◌, ◌≤◌, ◌≡◌, refl, true, false, List, [], ◌∷◌, length, take, drop, get_or}
+use Rattle.std.specs.Prelude.{ℕ, suc, ◌+◌, ◌-◌, ◌*◌, ◌<◌, ◌≤◌, ◌≡◌, refl, true, false, List, [], ◌∷◌, length, take, drop, get_or}
 use Rattle.std.specs.List.{list_all}
-use Rattle.std.proofs.Common.{sym, ap, ◌∙◌, arith, drop-drop, length-drop, le-leb, eqb-true}
+use Rattle.std.proofs.Common.{sym, ◌∙◌, arith, drop-drop, length-drop, le-leb}
 use Rattle.std.proofs.lemmas.Bool.{lt-leb}
 use Rattle.std.proofs.lemmas.List.{drop_all, take_rest}
-use Rattle.refusal.specs.Laws.Tests.{and-false, is_false}
-use Rattle.tree.specs.Table.{first_text}
+use Rattle.refusal.specs.Laws.Tests.{and-false}
+use Rattle.tree.specs.Table.{first_text, name_at}
 use Rattle.tree.proofs.Laws.Texts.{name-ends}
-use Rattle.tree.specs.Table.{name_at}
-use Rattle.wish_list.specs.Paths.{is_zero, paths_in, onto_path}
+use Rattle.wish_list.specs.Paths.{paths_in}
+use Rattle.wish_list.proofs.Cutting.{paths_in-next}
 use Rattle.new_table.specs.Inner.Steps.{slashes, shared_bytes, own_part, entries_behind, texts_behind, is_shallow_path, is_small}
-
--- a path, and the paths behind it
-pub paths_in-next : (s : List ℕ) → length (first_text s) < length s → paths_in s ≡ first_text s ∷ paths_in (drop (suc (length (first_text s))) s)
-unfolding paths_in
-paths_in-next [] h = absurd (omega arith)
-paths_in-next (zero ∷ s) h = refl
-paths_in-next (suc b ∷ s) h =
-    let z : is_zero (suc b) ≡ false = is_false (is_zero (suc b)) (λ e. let n : suc b ≡ 0 = eqb-true (suc b) 0 e in omega arith) in
-    rw z (ap (onto_path (suc b)) (paths_in-next s (omega arith)))
 
 -- bytes that end in a zero byte end each path
 pub text-ends : (s : List ℕ) (at : ℕ) → at < length s → get_or s (length s - 1) 0 ≡ 0 → at + length (first_text (drop at s)) < length s
@@ -41,18 +32,15 @@ pub record Measured (s before : List ℕ) (at entries texts : ℕ) : Type 0 wher
   pub texts_left : texts + texts_behind before (paths_in (drop at s)) ≡ texts_behind [] (paths_in s)
   pub shallow_left : list_all is_shallow_path (paths_in (drop at s)) ≡ list_all is_shallow_path (paths_in s)
 
-pub measured-none : (s : List ℕ) → Measured s [] 0 1 0
-measured-none s = record { reached = omega arith; few = omega arith; short = omega arith; entries_left = omega arith; texts_left = omega arith; shallow_left = refl }
-
 -- the path p at `at`
 module _ (s before p : List ℕ) (at entries texts : ℕ) (m : Measured s before at entries texts) (inside : at < length s) (ended : get_or s (length s - 1) 0 ≡ 0) (here : p ≡ first_text (drop at s)) where
   next_at : drop (suc (length p)) (drop at s) ≡ drop (at + suc (length p)) s
   next_at = drop-drop (suc (length p)) at s
 
-  pub fits : at + length p < length s
+  fits : at + length p < length s
   fits = rw here (text-ends s at inside ended)
 
-  pub left : paths_in (drop at s) ≡ p ∷ paths_in (drop (at + suc (length p)) s)
+  left : paths_in (drop at s) ≡ p ∷ paths_in (drop (at + suc (length p)) s)
   left =
       let l : length (drop at s) ≡ length s - at = length-drop at s in
       rw (← next_at, here) (paths_in-next (drop at s) (omega (arith, text-ends s at inside ended)))

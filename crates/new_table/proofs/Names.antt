@@ -7,6 +7,7 @@ use Rattle.std.proofs.lemmas.List.Splits.{length-slice_split}
 use Rattle.endian.specs.Bytes.{are_same_bytes}
 use Rattle.wish_list.specs.Paths.{is_slash, names_of}
 use Rattle.wish_list.specs.Tree.{common, added}
+use Rattle.wish_list.proofs.Laws.NameTexts.{names_of-named}
 use Rattle.new_table.specs.Inner.Steps.{slashes, shared_from, shared_bytes, own_part}
 
 pub length-names_of : (path : List ℕ) → length (names_of path) ≡ suc (slashes path)
@@ -72,16 +73,13 @@ pub record Shares (before path : List ℕ) (r : ℕ) : Type 0 where
   pub within : r ≤ length path
   pub rest : drop (common (names_of before) (names_of path)) (names_of path) ≡ names_of (drop r path)
 
-pub some-names : (path : List ℕ) → 0 < length (names_of path)
-some-names path = omega (arith, length-names_of path)
-
 -- both go on with a byte b
 module _ (b : ℕ) (before path : List ℕ) where
   with-slash : is_slash b ≡ true → common (names_of (b ∷ before)) (names_of (b ∷ path)) ≡ suc (common (names_of before) (names_of path))
-  with-slash e = rw e (common-slash (names_of before) (names_of path) (some-names before) (some-names path))
+  with-slash e = rw e (common-slash (names_of before) (names_of path) (names_of-named before) (names_of-named path))
 
   without-slash : is_slash b ≡ false → common (names_of (b ∷ before)) (names_of (b ∷ path)) ≡ common (names_of before) (names_of path)
-  without-slash e = rw e (common-onto_first b (names_of before) (names_of path) (some-names before) (some-names path))
+  without-slash e = rw e (common-onto_first b (names_of before) (names_of path) (names_of-named before) (names_of-named path))
 
   names-slash : is_slash b ≡ true → names_of (b ∷ path) ≡ [] ∷ names_of path
   names-slash e = rw e
@@ -107,7 +105,7 @@ module _ (b : ℕ) (before path : List ℕ) where
     none = λ q. absurd (omega arith);
     some = λ q. omega (arith, without-slash e, s.some (omega arith));
     within = omega (arith, s.within);
-    rest = rw (without-slash e, names-no_slash e, drop-onto_first (common (names_of before) (names_of path)) b (names_of path) (s.some (omega arith)) (some-names path)) s.rest;
+    rest = rw (without-slash e, names-no_slash e, drop-onto_first (common (names_of before) (names_of path)) b (names_of path) (s.some (omega arith)) (names_of-named path)) s.rest;
   }
 
   shares-cons : (r : ℕ) → Shares before path r → Shares (b ∷ before) (b ∷ path) (shared_from b r)

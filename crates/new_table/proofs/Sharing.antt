@@ -1,4 +1,4 @@
--- The loop that compares two paths. Assumes nothing.
+-- The loop that compares two paths: how many bytes of shared directories are found so far. Assumes nothing.
 use Rattle.std.specs.Prelude.{ℕ, zero, suc, ◌+◌, ◌<◌, ◌≤◌, ◌≡◌, refl, true, false, cond, List, [], ◌∷◌, length, drop, get_or, eqb}
 use Rattle.std.proofs.Common.{arith, drop-cons, eq-eqb, eqb-true}
 use Rattle.std.proofs.lemmas.List.{drop_all}
@@ -11,9 +11,6 @@ pub record Sharing (before path : List ℕ) (i n : ℕ) : Type 0 where
   pub within : n ≤ i
   pub more : 0 < shared_bytes (drop i before) (drop i path) → shared_bytes before path ≡ i + shared_bytes (drop i before) (drop i path)
   pub last : shared_bytes (drop i before) (drop i path) ≡ 0 → shared_bytes before path ≡ n
-
-pub sharing-none : (before path : List ℕ) → Sharing before path 0 0
-sharing-none before path = record { within = omega arith; more = λ h. omega arith; last = λ h. h }
 
 -- the step at byte i
 module _ (before path : List ℕ) (i n : ℕ) (s : Sharing before path i n) (in_before : i < length before) (in_path : i < length path) where

@@ -1,6 +1,5 @@
 -- A draft is a valid table, and reads as the tree. Assumes nothing.
-use Rattle.std.specs.Prelude.{Ok, IsTrue, is_ok}
-use Rattle.std.specs.Prelude.{ℕ, ◌≡◌, refl, List, [], ◌∷◌, length}
+use Rattle.std.specs.Prelude.{Ok, IsTrue, is_ok, ℕ, ◌≡◌, refl, List, [], ◌∷◌, length}
 use Rattle.std.proofs.Common.{◌∙◌, arith}
 use Rattle.tree.specs.Table.{Node, encode, limits, check, count, nodes_of}
 use Rattle.tree.specs.Inner.WellFormed.{IsWellFormed}

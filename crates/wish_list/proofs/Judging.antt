@@ -1,10 +1,9 @@
 -- The tests of a path and of all paths, in parts. Assumes nothing.
-use Rattle.std.specs.Prelude.{Ok, Err, ℕ, zero, suc, ◌+◌, ◌-◌, ◌<◌, ◌≤◌, ◌≡◌, refl, Bool, true, false, not, ◌||◌, ◌==◌, nat_lt, List, [], ◌∷◌, length, take, drop}
+use Rattle.std.specs.Prelude.{Ok, Err, ℕ, ◌+◌, ◌-◌, ◌<◌, ◌≤◌, ◌≡◌, refl, Bool, true, false, not, ◌||◌, ◌==◌, nat_lt, List, [], ◌∷◌, length, take, drop}
 use Rattle.std.specs.List.{list_all, count_by}
-use Rattle.std.proofs.Common.{sym, ◌∙◌, arith, cond}
+use Rattle.std.proofs.Common.{◌∙◌, arith}
 use Rattle.std.proofs.lemmas.List.{take_rest}
-use Rattle.std.proofs.lemmas.List.Sums.{sum_by-cons}
-use Rattle.std.proofs.lemmas.Bool.{eqb-true}
+use Rattle.std.proofs.lemmas.Bool.{eqb-true, not-false}
 use Rattle.std.proofs.lemmas.Bool.Decides.{nat_tests}
 use Rattle.refusal.specs.declared.Refusal.{Refusal}
 use Rattle.refusal.specs.declared.Refusal.TheVariants.{MissingNullTerminator, LimitOrMemory, InvalidNameByte, UnsafeName}
@@ -14,7 +13,7 @@ use Rattle.refusal.specs.Laws.Tests.{or-false}
 use Rattle.tree.specs.Table.{is_safe, is_plain}
 use Rattle.wish_list.specs.Paths.{paths_in, is_zero, has_rest, names_of, ends_verdict, path_verdict, paths_verdict}
 use Rattle.wish_list.specs.Inner.Earlier.{form_verdict, order_verdict}
-use Rattle.wish_list.proofs.Cutting.{paths_in-more, is_zero-suc, length-onto_path}
+use Rattle.wish_list.proofs.Cutting.{length-paths_in}
 
 pub path_verdict-parts : (before : List (List ℕ)) (path : List ℕ) → path_verdict before path ≡ first (form_verdict path) (order_verdict before path)
 unfolding path_verdict form_verdict order_verdict
@@ -37,13 +36,6 @@ form-some [] h = let z : ◌≡◌ {A = ℕ} 0 1 = cc in absurd (omega arith)
 form-some (b ∷ path) h = omega arith
 
 -- ---- all paths
-
--- there are as many as zero bytes
-pub length-paths_in : (bytes : List ℕ) → length (paths_in bytes) ≡ count_by is_zero bytes
-unfolding paths_in
-length-paths_in [] = refl
-length-paths_in (zero ∷ s) = rw (sum_by-cons (λ b. cond (is_zero b) 1 0) 0 s) (omega (arith, length-paths_in s))
-length-paths_in (suc b ∷ s) = rw (paths_in-more b s, sum_by-cons (λ x. cond (is_zero x) 1 0) (suc b) s, is_zero-suc b) (length-onto_path (suc b) (paths_in s) ∙ length-paths_in s ∙ omega arith)
 
 -- what is left behind a path, as a slice of its length
 pub behind-first : (rest path : List ℕ) (k : ℕ) → paths_in rest ≡ path ∷ paths_in (drop k rest) → paths_in rest ≡ path ∷ paths_in (take (length rest - k) (drop k rest))
@@ -70,12 +62,9 @@ judged-end before rest all h l = h ∙ none (paths_in rest) l
     none [] l = refl
     none (path ∷ paths) l = absurd (omega arith)
 
--- where their ends are in order there are as many as sizes
-pub ended-paths : (bytes : List ℕ) (n : ℕ) → ends_verdict bytes n ≡ Ok tt → length (paths_in bytes) ≡ n
-ended-paths bytes n h =
+-- where their ends are in order, there are as many as sizes
+pub ends-passed : (bytes : List ℕ) (n : ℕ) → ends_verdict bytes n ≡ Ok tt → (has_rest bytes ≡ false) × (length (paths_in bytes) ≡ n)
+ends-passed bytes n h =
     let t = (refuse-passed (has_rest bytes || not (count_by is_zero bytes == n)) MissingNullTerminator (Ok tt) h).0 in
-    length-paths_in bytes ∙ eqb-true (count_by is_zero bytes) n (held (count_by is_zero bytes == n) (or-false (has_rest bytes) (not (count_by is_zero bytes == n)) t).1)
-  where
-    held : (b : Bool) → not b ≡ false → b ≡ true
-    held true h = refl
-    held false h = sym h
+    let o = or-false (has_rest bytes) (not (count_by is_zero bytes == n)) t in
+    (o.0, length-paths_in bytes ∙ eqb-true (count_by is_zero bytes) n (not-false (count_by is_zero bytes == n) o.1))

@@ -1,17 +1,19 @@
 -- The paths that came before, as they are kept: what they say of the next path, and that they are kept with it. Assumes nothing.
-use Rattle.std.specs.Prelude.{Ok, Err, ℕ, ◌+◌, ◌<◌, ◌≤◌, ◌≡◌, refl, Bool, true, false, not, ◌&&◌, ◌||◌, List, [], ◌∷◌, length, take, ◌==◌, slice_index, slice_index_or, slice_set}
+use Rattle.std.specs.Prelude.{Ok, Err, ℕ, ◌+◌, ◌<◌, ◌≤◌, ◌≡◌, refl, Bool, true, false, not, ◌&&◌, List, [], ◌∷◌, length, take, ◌==◌, slice_index, slice_index_or, slice_set}
 use Rattle.std.specs.List.{list_any}
 use Rattle.std.proofs.Common.{ap, sym, ◌∙◌, ⊎_elim, arith}
+use Rattle.std.proofs.Math.Bool.{and-or_distrib_right}
 use Rattle.std.proofs.Math.Seq.{take-length}
 use Rattle.std.proofs.lemmas.List.{get_or-set_same, get_or-set_other}
 use Rattle.endian.specs.Bytes.{are_same_bytes}
+use Rattle.endian.specs.Laws.Stored.{same_refl}
 use Rattle.refusal.specs.declared.Refusal.TheVariants.{AlreadyExists}
 use Rattle.refusal.specs.Refusal.{refuse}
 use Rattle.refusal.specs.Laws.Chains.{refuse-passed}
 use Rattle.refusal.specs.Laws.Tests.{or-false, lt-or-le}
 use Rattle.wish_list.specs.Paths.{is_below, is_used_by, is_in_order}
 use Rattle.wish_list.specs.Inner.Earlier.{common_length, order_verdict, last_of, is_one_of, IsKept}
-use Rattle.wish_list.proofs.Order.{below-later, below-itself, used-itself, bytes-itself, bytes-front, common-within_last, take-common, used-common, bytes-common}
+use Rattle.wish_list.proofs.Order.{below-later, below-itself, used-itself, bytes-front, common-within_last, take-common, used-common, bytes-common}
 
 is_in_order-last : (before : List (List ℕ)) (path : List ℕ) → 0 < length path → is_in_order before path ≡ is_below (last_of before) path
 is_in_order-last [] [] h = absurd (omega arith)
@@ -25,20 +27,13 @@ module _ (last path : List ℕ) (b : is_below last path ≡ true) where
       let t = or-false (is_below last file) _ h in
       rw (below-later last path file b t.0, none_later before t.1)
 
-  and-or : (s t e : Bool) → ((s && e) || (t && e)) ≡ ((s || t) && e)
-  and-or true true true = refl
-  and-or true true false = refl
-  and-or true false true = refl
-  and-or true false false = refl
-  and-or false t e = refl
-
   any-used : (before : List (List ℕ)) → list_any (λ file. is_below last file) before ≡ false → list_any (λ file. is_used_by file last) before ≡ false →
       list_any (λ file. is_used_by file path) before ≡ (is_one_of before (take (common_length last path) last) && (slice_index path (common_length last path) == 0x2F))
   any-used [] h g = refl
   any-used (file ∷ before) h g =
       let t = or-false (is_below last file) _ h in
       let u = or-false (is_used_by file last) _ g in
-      rw (used-common last path file b t.0 u.0, any-used before t.1 u.1) (and-or (are_same_bytes file (take (common_length last path) last)) (is_one_of before (take (common_length last path) last)) (slice_index path (common_length last path) == 0x2F))
+      rw (used-common last path file b t.0 u.0, any-used before t.1 u.1) (sym (and-or_distrib_right (are_same_bytes file (take (common_length last path) last)) (is_one_of before (take (common_length last path) last)) (slice_index path (common_length last path) == 0x2F)))
 
   one_of-front : (before : List (List ℕ)) (n : ℕ) → list_any (λ file. is_below last file) before ≡ false → common_length last path < n → n ≤ length path →
       is_one_of before (take n path) ≡ false
@@ -81,7 +76,7 @@ module _ (before : List (List ℕ)) (last path : List ℕ) (marks : List Bool) (
     none_behind = rw (below-itself path) (none_later last path h before k.none_behind);
     none_around = rw (used-itself path) (none_used v);
     marked = λ n w. ⊎_elim (λ (l : n < length path). rw (bytes-front path n l) (get_or-set_other now (length path) n true false (λ d. omega arith) ∙ front n l))
-        (λ (l : length path ≤ n). let d : n ≡ length path = omega arith in rw (d, take-length path, bytes-itself path) (get_or-set_same now (length path) true false room))
+        (λ (l : length path ≤ n). let d : n ≡ length path = omega arith in rw (d, take-length path, same_refl path) (get_or-set_same now (length path) true false room))
         (lt-or-le n (length path));
   }
     where

@@ -1,26 +1,20 @@
 -- The order of paths, and the paths that another begins with. Assumes nothing.
 use Rattle.std.specs.Prelude.{ℕ, zero, suc, ◌<◌, ◌≤◌, ◌≡◌, refl, Bool, true, false, not, ◌&&◌, List, [], ◌∷◌, length, take, ◌==◌, slice_index}
+use Rattle.std.proofs.Math.Bool.{and-true}
 use Rattle.std.proofs.Common.{ap, sym, ◌∙◌, ⊎_elim, arith}
-use Rattle.std.proofs.lemmas.Bool.{false≢true, eq-eqb, eqb-true}
+use Rattle.std.proofs.lemmas.Bool.{false≢true, eq-eqb, eqb-true, ne_eqb, not-false, not-true}
 use Rattle.std.proofs.lemmas.Bool.Decides.{nat_tests}
 use Rattle.std.specs.Cmp.Lexicographic.{slice_partial_cmp}
 use Rattle.std.specs.Ordering.{MatchOrdering, nat_cmp, is_le, is_some_and}
 use Rattle.std.proofs.Common.{Ordering, Less, Equal, Greater, Some}
 use Rattle.std.proofs.lemmas.Cmp.{same_from_slice_cmp_tested, ranked}
 use Rattle.endian.specs.Bytes.{are_same_bytes}
-use Rattle.refusal.specs.Laws.Tests.{lt-or-eq-or-gt, is_false, same_test}
+use Rattle.refusal.specs.Laws.Tests.{lt-or-eq-or-gt, same_test}
 use Rattle.wish_list.specs.Paths.{is_below, is_used_by}
 use Rattle.wish_list.specs.Inner.Earlier.{common_length}
 
-eqb-other : (x y : ℕ) → (x ≡ y → ⊥) → (x == y) ≡ false
-eqb-other x y h = is_false (x == y) (λ e. h (eqb-true x y e))
-
 eqb-turned : (x y : ℕ) → (x == y) ≡ (y == x)
 eqb-turned x y = same_test (x == y) (y == x) (λ e. eq-eqb y x (sym (eqb-true x y e))) (λ e. eq-eqb x y (sym (eqb-true y x e)))
-
-and-true : (b : Bool) → (b && true) ≡ b
-and-true true = refl
-and-true false = refl
 
 -- ---- two paths with a first byte each
 
@@ -44,7 +38,7 @@ module _ (x y : ℕ) (xs ys : List ℕ) where
   used-same h = rw (eq-eqb x y h)
 
   used-other : (x ≡ y → ⊥) → is_used_by (x ∷ xs) (y ∷ ys) ≡ false
-  used-other h = rw (eqb-other x y h)
+  used-other h = rw (ne_eqb x y h)
 
   bytes-same : x ≡ y → are_same_bytes (x ∷ xs) (y ∷ ys) ≡ are_same_bytes xs ys
   unfolding are_same_bytes
@@ -52,7 +46,7 @@ module _ (x y : ℕ) (xs ys : List ℕ) where
 
   bytes-other : (x ≡ y → ⊥) → are_same_bytes (x ∷ xs) (y ∷ ys) ≡ false
   unfolding are_same_bytes
-  bytes-other h = rw (eqb-other x y h)
+  bytes-other h = rw (ne_eqb x y h)
 
 used-none : (y : ℕ) (ys : List ℕ) → is_used_by [] (y ∷ ys) ≡ (y == 0x2F)
 used-none y ys = and-true (0x2F == y) ∙ eqb-turned 0x2F y
@@ -94,11 +88,6 @@ pub used-itself : (path : List ℕ) → is_used_by path path ≡ false
 used-itself [] = refl
 used-itself (x ∷ path) = used-same x x path path refl ∙ used-itself path
 
-pub bytes-itself : (path : List ℕ) → are_same_bytes path path ≡ true
-unfolding are_same_bytes
-bytes-itself [] = refl
-bytes-itself (x ∷ path) = bytes-same x x path path refl ∙ bytes-itself path
-
 pub bytes-front : (path : List ℕ) (n : ℕ) → n < length path → are_same_bytes path (take n path) ≡ false
 unfolding are_same_bytes
 bytes-front [] n h = absurd (omega arith)
@@ -106,7 +95,7 @@ bytes-front (x ∷ path) zero h = refl
 bytes-front (x ∷ path) (suc n) h = bytes-same x x path (take n path) refl ∙ bytes-front path n (omega arith)
 
 -- `<=` tests it the other way round
-pub le-below : (path last : List ℕ) (r : Bool) → r ≡ is_some_and is_le (slice_partial_cmp (λ x y. Some (nat_cmp x y)) path last) → r ≡ not (is_below last path)
+le-below : (path last : List ℕ) (r : Bool) → r ≡ is_some_and is_le (slice_partial_cmp (λ x y. Some (nat_cmp x y)) path last) → r ≡ not (is_below last path)
 le-below = same_from_slice_cmp_tested nat_cmp is_le (λ xs ys. not (is_below ys xs)) refl (λ _ _. refl) (λ _ _. refl) step
   where
     step : (x y : ℕ) (xs ys : List ℕ) (o : Ordering) → o ≡ nat_cmp x y → MatchOrdering o (not (is_below (y ∷ ys) (x ∷ xs)) ≡ true) (not (is_below (y ∷ ys) (x ∷ xs)) ≡ not (is_below ys xs)) (not (is_below (y ∷ ys) (x ∷ xs)) ≡ false)
@@ -116,18 +105,10 @@ le-below = same_from_slice_cmp_tested nat_cmp is_le (λ xs ys. not (is_below ys 
 
 module _ (path last : List ℕ) (r : Bool) (e : r ≡ is_some_and is_le (slice_partial_cmp (λ x y. Some (nat_cmp x y)) path last)) where
   pub below-if_not_le : r ≡ false → is_below last path ≡ true
-  below-if_not_le h = turned (is_below last path) (sym (le-below path last r e) ∙ h)
-    where
-      turned : (b : Bool) → not b ≡ false → b ≡ true
-      turned true h = refl
-      turned false h = sym h
+  below-if_not_le h = not-false (is_below last path) (sym (le-below path last r e) ∙ h)
 
   pub not_below-if_le : r ≡ true → is_below last path ≡ false
-  not_below-if_le h = turned (is_below last path) (sym (le-below path last r e) ∙ h)
-    where
-      turned : (b : Bool) → not b ≡ true → b ≡ false
-      turned true h = sym h
-      turned false h = refl
+  not_below-if_le h = not-true (is_below last path) (sym (le-below path last r e) ∙ h)
 
 -- ---- what a path has in common with one before it
 
@@ -137,7 +118,7 @@ common-within_last (x ∷ last) [] = omega arith
 common-within_last (x ∷ last) (y ∷ path) = let r = common-within_last last path in grind (arith, nat_tests)
 
 -- there is a byte behind it
-pub common-within : (last path : List ℕ) → is_below last path ≡ true → common_length last path < length path
+common-within : (last path : List ℕ) → is_below last path ≡ true → common_length last path < length path
 common-within [] [] h = absurd (false≢true h)
 common-within [] (y ∷ path) h = omega arith
 common-within (x ∷ last) [] h = absurd (false≢true h)

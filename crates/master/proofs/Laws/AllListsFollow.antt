@@ -1,4 +1,4 @@
--- A new master is a list of bytes, as the buffer is; so any list of edits may follow. And 21 exactly. Assumes nothing.
+-- A new master is a list of bytes, as the buffer is, so any list of edits may follow; and 21 is due exactly where no place is left. Assumes nothing.
 use Rattle.std.specs.Prelude.{Ok, Err, ℕ, ◌+◌, ◌≤◌, ◌≡◌, refl, Bool, true, false, not, List, [], ◌∷◌, length, replicate}
 use Rattle.std.proofs.Common.{arith}
 use Rattle.std.proofs.lemmas.List.{length-replicate}
@@ -52,7 +52,7 @@ module _ (m : Master) (image : List ℕ) (words bytes : ℕ) (all : AllBytes ima
   unfolding field_bytes header_with blank_header
   runs = (g.passable.code_bytes, (zeros-all 2, (zero-byte, (zero-byte, (zero-byte, (zero-byte, (zeros-all 14, (be32-all 0, (be32-all gcn_magic, (zeros-all 0x3E0, (be32-all 0, (be32-all 0, (zeros-all 0x18, (be32-all 0, (be32-all 0x440, (be32-all (table_size m), (be32-all 0, (be32-all 0, (be32-all m.disc_end, (be32-all 0, (be32-all 0, tt)))))))))))))))))))))
 
-  pub all-new : AllBytes (written_master m image)
+  all-new : AllBytes (written_master m image)
   unfolding written_master
   all-new =
       let l : length (put image 0 (replicate m.disc_end 0)) ≡ length image = length-blank m image f in

@@ -31,7 +31,7 @@ directory-ending (directory nm next) e = refl
 
 module _ (nodes : List Node) (w : IsWellFormed nodes) (differ : SiblingsDiffer nodes) where
   -- LAW: an entry is the first child with its name
-  pub child-itself : (k : ℕ) → 0 < k → k < length nodes → child_of nodes (parent_of nodes k) (name_of (get_or nodes k empty_root)) ≡ Ok k
+  child-itself : (k : ℕ) → 0 < k → k < length nodes → child_of nodes (parent_of nodes k) (name_of (get_or nodes k empty_root)) ≡ Ok k
   child-itself k h l =
       let i = parent-inside nodes k w h l in
       child-at nodes (parent_of nodes k) (name_of (get_or nodes k empty_root)) k i.0 (enclosing-directory (get_or nodes (parent_of nodes k) empty_root) k i.1).1
@@ -77,7 +77,7 @@ module _ (nodes : List Node) (w : IsWellFormed nodes) (differ : SiblingsDiffer n
       go (suc p) e ih = let a = parent-before nodes k h in led-behind k h l (ih (omega arith) (omega arith) (omega arith))
 
   -- LAW: each entry past the root is found by its path
-  pub led : (k : ℕ) → 0 < k → k < length nodes → IsLed k
+  led : (k : ℕ) → 0 < k → k < length nodes → IsLed k
   led k h l = led-below (suc k) k (omega arith) h l
 
   -- LAW: a file's path is found as it stands

@@ -2,14 +2,14 @@
 use Rattle.std.specs.Prelude.{ℕ, zero, suc, ◌+◌, ◌-◌, ◌<◌, ◌≤◌, ◌≡◌, refl, List, [], ◌∷◌, ◌++◌, length, drop, get_or}
 use Rattle.std.proofs.Common.{sym, ap, ◌∙◌, ⊎_elim, arith, add-zero, one-add, append_assoc, append-nil, length-append, length-drop}
 use Rattle.refusal.specs.Laws.Tests.{lt-or-le}
-use Rattle.tree.specs.Table.{Node, file, directory, name_of, empty_root, parent_of}
+use Rattle.tree.specs.Table.{Node, file, directory, empty_root}
 use Rattle.tree.specs.Lookup.{next_of}
-use Rattle.listing.specs.Lines.{ending, path_of}
-use Rattle.listing.proofs.Paths.{path-root, path-step}
+use Rattle.listing.specs.Lines.{path_of}
+use Rattle.listing.proofs.Paths.{path-root}
 use Rattle.wish_list.specs.Tree.{Wish, common, added, below, entries_from, entries_with, tree_from, tree}
-use Rattle.wish_list.proofs.Laws.Below.{AllNamed, common-less, common-most, below-in, below-out, below-zero, below-nil, length-entries_with, length-tree}
+use Rattle.wish_list.proofs.Laws.Below.{AllNamed, common-less, common-most, below-in, below-out, below-zero, below-nil, length-entries_with, length-tree, below-least}
 use Rattle.master.specs.Inner.Entries.{front_of, paths_below, paths_with, entry_paths}
-use Rattle.master.proofs.Laws.Parents.{front-more, front-shared, below-least, Around, around-later, around-path}
+use Rattle.master.proofs.Laws.Parents.{front-more, front-shared, Around, around-later, around-path}
 
 -- ---- entries and paths that stand one behind the other
 
@@ -33,7 +33,7 @@ unfolding Stands
 stands-right nodes k m [] ys e s = let k≡ : k ≡ m = omega arith in rw k≡ at s
 stands-right nodes k m (x ∷ xs) ys e s = stands-right nodes (suc k) m xs ys (omega arith) s.1
 
-pub paths-append : (nodes : List Node) (k m : ℕ) (ps qs : List (List ℕ)) → k + length ps ≡ m → HasPaths nodes k ps → HasPaths nodes m qs → HasPaths nodes k (ps ++ qs)
+paths-append : (nodes : List Node) (k m : ℕ) (ps qs : List (List ℕ)) → k + length ps ≡ m → HasPaths nodes k ps → HasPaths nodes m qs → HasPaths nodes k (ps ++ qs)
 unfolding HasPaths
 paths-append nodes k m [] qs e s t = let k≡ : k ≡ m = omega arith in rw k≡ t
 paths-append nodes k m (p ∷ ps) qs e s t = (s.0, paths-append nodes (suc k) m ps qs (omega arith) s.1 t)
@@ -48,7 +48,7 @@ unfolding HasPaths
 paths-right nodes k m [] qs e s = let k≡ : k ≡ m = omega arith in rw k≡ at s
 paths-right nodes k m (p ∷ ps) qs e s = paths-right nodes (suc k) m ps qs (omega arith) s.1
 
-pub path-at : (nodes : List Node) (k : ℕ) (ps : List (List ℕ)) (i : ℕ) → HasPaths nodes k ps → i < length ps → path_of nodes (k + i) ≡ 0x2F ∷ get_or ps i []
+path-at : (nodes : List Node) (k : ℕ) (ps : List (List ℕ)) (i : ℕ) → HasPaths nodes k ps → i < length ps → path_of nodes (k + i) ≡ 0x2F ∷ get_or ps i []
 unfolding HasPaths
 path-at nodes k [] i s h = absurd (omega arith)
 path-at nodes k (p ∷ ps) zero s h = rw (add-zero k) s.0
@@ -71,7 +71,7 @@ stands-in before (x ∷ xs) = (at before, rw (append_assoc before (x ∷ []) xs,
 
 -- ---- lengths
 
-pub length-paths_below : (front : List ℕ) (names : List (List ℕ)) → length (paths_below front names) ≡ length names
+length-paths_below : (front : List ℕ) (names : List (List ℕ)) → length (paths_below front names) ≡ length names
 unfolding paths_below
 length-paths_below front [] = refl
 length-paths_below front (name ∷ []) = refl
@@ -80,7 +80,7 @@ length-paths_below front (name ∷ next ∷ names) = ap suc (length-paths_below 
 pub length-paths_with : (before names : List (List ℕ)) → length (paths_with before names) ≡ added before names
 length-paths_with before names = length-paths_below (front_of (common before names) names) (drop (common before names) names) ∙ length-drop (common before names) names
 
-pub length-entry_paths : (before : List (List ℕ)) (ws : List Wish) → length (entry_paths before ws) ≡ below 0 before ws
+length-entry_paths : (before : List (List ℕ)) (ws : List Wish) → length (entry_paths before ws) ≡ below 0 before ws
 unfolding entry_paths
 length-entry_paths before [] = rw (below-nil 0 before)
 length-entry_paths before (w ∷ ws) = omega (arith, length-append (paths_with before w.names) (entry_paths w.names ws), length-paths_with before w.names, length-entry_paths w.names ws, below-zero before w ws)
@@ -102,7 +102,7 @@ abbrev pub AllAround : List Node → ℕ → List (List ℕ) → List Wish → T
 AllAround nodes k before ws = (i : ℕ) → i ≤ length before - 1 → Around nodes k i k before ws (k + below (suc i) before ws)
 
 -- the paths of a file's entries from its n-th name on, where n directories on its path stand before them
-pub file-paths : (nodes : List Node) (k n next : ℕ) (names : List (List ℕ)) (w : Wish) (ws : List Wish) → 0 < length names → drop n w.names ≡ names → k + length names ≡ next →
+file-paths : (nodes : List Node) (k n next : ℕ) (names : List (List ℕ)) (w : Wish) (ws : List Wish) → 0 < length names → drop n w.names ≡ names → k + length names ≡ next →
     ((i : ℕ) → i < n → Around nodes k i next w.names ws (next + below (suc i) w.names ws)) → Around nodes k n next w.names ws k →
     Stands nodes k (entries_from k n names w ws) → HasPaths nodes k (paths_below (front_of n w.names) names) × AllAround nodes next w.names ws
 unfolding entries_from paths_below Stands HasPaths
@@ -154,7 +154,7 @@ around-next nodes k next before w ws i inner e h a =
       ends = a.ends;
     }
 
-pub tree_from-paths : (nodes : List Node) (k : ℕ) (before : List (List ℕ)) (ws : List Wish) → AllNamed ws → AllAround nodes k before ws → Stands nodes k (tree_from k before ws) →
+tree_from-paths : (nodes : List Node) (k : ℕ) (before : List (List ℕ)) (ws : List Wish) → AllNamed ws → AllAround nodes k before ws → Stands nodes k (tree_from k before ws) →
     HasPaths nodes k (entry_paths before ws)
 unfolding tree_from entry_paths HasPaths
 tree_from-paths nodes k before [] named a s = tt
@@ -201,8 +201,3 @@ tree-paths ws named = tree_from-paths (tree ws) 1 [] ws named (root_around ws) (
 -- LAW: the same, entry by entry
 pub path_of-tree : (ws : List Wish) (k : ℕ) → AllNamed ws → k < length (entry_paths [] ws) → path_of (tree ws) (suc k) ≡ 0x2F ∷ get_or (entry_paths [] ws) k []
 path_of-tree ws k named h = rw one-add at (path-at (tree ws) 1 (entry_paths [] ws) k (tree-paths ws named) h)
-
--- LAW: it is the path of the directory that the entry is nested in, and its name
-pub path-parent : (ws : List Wish) (k : ℕ) → AllNamed ws → k < length (entry_paths [] ws) →
-    0x2F ∷ get_or (entry_paths [] ws) k [] ≡ path_of (tree ws) (parent_of (tree ws) (suc k)) ++ (name_of (get_or (tree ws) (suc k) empty_root) ++ ending (get_or (tree ws) (suc k) empty_root))
-path-parent ws k named h = sym (path_of-tree ws k named h) ∙ path-step (tree ws) (suc k) (omega arith)

@@ -12,6 +12,7 @@ use Rattle.wish_list.proofs.Laws.NameTexts.{wishes-named}
 use Rattle.master.specs.Inner.Entries.{front_of, paths_below, paths_with, entry_paths}
 use Rattle.master.specs.Theorem.{FileSeen, file_seen, files_from, files_in, files_wished}
 use Rattle.master.proofs.Laws.NewPaths.{Stands, HasPaths, stands-left, stands-right, paths-left, paths-right, length-paths_with, tree-stands, tree-paths}
+use Rattle.master.proofs.Laws.OrderNames.{joined-behind}
 
 -- ---- names and paths
 
@@ -29,7 +30,7 @@ front-join (suc n) (x ∷ y ∷ names) h = rw (append_assoc x (0x2F ∷ front_of
 
 -- ---- files among some entries
 
-pub files_from-append : (nodes : List Node) (k m a b n : ℕ) → k + a ≡ m → a + b ≡ n → files_from nodes k n ≡ files_from nodes k a ++ files_from nodes m b
+files_from-append : (nodes : List Node) (k m a b n : ℕ) → k + a ≡ m → a + b ≡ n → files_from nodes k n ≡ files_from nodes k a ++ files_from nodes m b
 unfolding files_from
 files_from-append nodes k m zero b n e f = let k≡ : k ≡ m = omega arith in let n≡ : n ≡ b = omega arith in rw (k≡, n≡)
 files_from-append nodes k m (suc a) b zero e f = absurd (omega arith)
@@ -45,9 +46,9 @@ unfolding entries_from paths_below Stands HasPaths files_from
 entries-files nodes k n front [] w ws h s p = absurd (omega arith)
 entries-files nodes k n front (name ∷ []) w ws h s p = rw (s.0, p.0)
 entries-files nodes k n front (name ∷ inside ∷ names) w ws h s p =
-    let j : List ℕ = join_with_byte 0x2F (inside ∷ names) in
-    let e : (front ++ (name ++ (0x2F ∷ []))) ++ j ≡ front ++ (name ++ (0x2F ∷ j)) = append_assoc front (name ++ (0x2F ∷ [])) j ∙ ap (λ (t : List ℕ). front ++ t) (append_assoc name (0x2F ∷ []) j) in
-    rw s.0 (entries-files nodes (suc k) (suc n) (front ++ (name ++ (0x2F ∷ []))) (inside ∷ names) w ws (omega arith) s.1 p.1 ∙ rw e)
+    rw s.0
+    (entries-files nodes (suc k) (suc n) (front ++ (name ++ (0x2F ∷ []))) (inside ∷ names) w ws (omega arith) s.1 p.1
+    ∙ ap (λ (path : List ℕ). record { path = 0x2F ∷ path; size = w.size } ∷ []) (joined-behind front name inside names))
 
 -- each file of a wish list
 unfoldable pub files_of : List Wish → List FileSeen
@@ -76,7 +77,7 @@ tree-root : (ws : List Wish) → get_or (tree ws) 0 empty_root ≡ directory [] 
 unfolding tree
 tree-root ws = refl
 
-pub files_in-tree : (ws : List Wish) → AllNamed ws → files_in (tree ws) ≡ files_of ws
+files_in-tree : (ws : List Wish) → AllNamed ws → files_in (tree ws) ≡ files_of ws
 unfolding files_from
 files_in-tree ws named = rw (length-tree ws, tree-root ws) (tree_from-files (tree ws) 1 [] ws named (tree-stands ws) (tree-paths ws named))
 

@@ -38,7 +38,7 @@ pub record Passed (m : Master) (room words bytes : ℕ) : Type 0 where
   pub bytes_fit : table_size m ≤ bytes
   pub room_fits : m.disc_end ≤ room
 
-pub passed-before : (m : Master) (room words bytes : ℕ) → before_place m room words bytes ≡ Ok tt → Passed m room words bytes
+passed-before : (m : Master) (room words bytes : ℕ) → before_place m room words bytes ≡ Ok tt → Passed m room words bytes
 unfolding before_place
 passed-before m room words bytes e =
     let a = first-passed (list_verdict m.paths (length m.sizes)) _ e in
@@ -99,7 +99,7 @@ regions_wished-wishes (p ∷ ps) [] offsets a b = absurd (omega arith)
 regions_wished-wishes (p ∷ ps) (s ∷ ss) [] a b = absurd (omega arith)
 regions_wished-wishes (p ∷ ps) (s ∷ ss) (o ∷ os) a b = rw (regions_wished-wishes ps ss os (omega arith) (omega arith))
 
-pub files_of-tree : (paths : List (List ℕ)) (sizes offsets : List ℕ) → length paths ≡ length sizes → length offsets ≡ length sizes → files_of (tree (wishes paths sizes offsets)) ≡ regions_of sizes offsets
+files_of-tree : (paths : List (List ℕ)) (sizes offsets : List ℕ) → length paths ≡ length sizes → length offsets ≡ length sizes → files_of (tree (wishes paths sizes offsets)) ≡ regions_of sizes offsets
 unfolding tree pick
 files_of-tree paths sizes offsets a b =
     files_of-tree_from 1 [] (wishes paths sizes offsets) (wishes-named paths sizes offsets) ∙ regions_wished-wishes paths sizes offsets a b
@@ -125,18 +125,18 @@ module _ (m : Master) (image : List ℕ) (words bytes : ℕ) (g : IsGranted m (l
       accepted-sound m.paths m.sizes offsets p.listed g.passable.sizes
       (λ i. omega (arith, g.passable.end, offsets-below (first_free m) m.disc_end m.sizes (placeable m (length image) words bytes g.granted) i))
 
-  pub size-same : length (encode (nodes_of_master m)) ≡ table_size m
+  size-same : length (encode (nodes_of_master m)) ≡ table_size m
   unfolding nodes_of_master
   size-same = encode-length-placed (paths_in m.paths) m.sizes offsets m.sizes []
 
-  pub limits-same : limits (nodes_of_master m) words ≡ Ok tt
+  limits-same : limits (nodes_of_master m) words ≡ Ok tt
   unfolding nodes_of_master
   limits-same = limits-placed (paths_in m.paths) m.sizes offsets m.sizes [] words ∙ p.limited
 
   pub fits : Fits m image
   fits = record { code = g.passable.game_code; small = g.passable.end; table = at.table; size = size-same; room = p.room_fits }
 
-  pub nodes-new : nodes_in new ≡ nodes_of_master m
+  nodes-new : nodes_in new ≡ nodes_of_master m
   unfolding nodes_in written_master
   nodes-new = rw (table-new m image fits) (written-reads (nodes_of_master m) words well limits-same)
 

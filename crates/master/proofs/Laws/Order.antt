@@ -41,9 +41,6 @@ below-trans a b c p q = go (slice_cmp nat_cmp a b) refl (slice_cmp nat_cmp b c) 
     go Equal e y f p q = absurd (false≢true p)
     go Greater e y f p q = absurd (false≢true p)
 
-pub below-itself : (a : List ℕ) → is_below a a ≡ false
-below-itself a = rw (tied_itself nat_list_cmp_total a)
-
 -- what goes on behind a is above a, or a
 pub below-longer : (a : List ℕ) (b : ℕ) (rest : List ℕ) → is_below a (a ++ (b ∷ rest)) ≡ true
 below-longer [] b rest = refl

@@ -1,15 +1,16 @@
 -- The paths of accepted wishes rise, and so do those of all entries of their tree; no file is used as a directory. Assumes nothing.
 use Rattle.std.specs.Prelude.{ℕ, zero, suc, ◌-◌, ◌<◌, ◌≡◌, refl, true, false, List, [], ◌∷◌, ◌++◌, length, drop, get_or}
 use Rattle.std.specs.List.{list_any}
-use Rattle.std.proofs.Common.{◌∙◌, arith, length-drop}
+use Rattle.std.proofs.Common.{sym, ◌∙◌, arith, length-drop}
 use Rattle.std.proofs.lemmas.Bool.{false≢true}
-use Rattle.refusal.specs.Laws.Tests.{or-false}
+use Rattle.std.proofs.lemmas.List.Folds.{list_any_at}
+use Rattle.refusal.specs.Laws.Tests.{is_false}
 use Rattle.tree.specs.Table.{is_safe}
 use Rattle.tree.specs.Inner.WellFormed.{IsGoodName}
 use Rattle.wish_list.specs.Paths.{is_below, is_used_by, names_of}
 use Rattle.wish_list.specs.Tree.{wishes, common}
 use Rattle.wish_list.proofs.Laws.Below.{common-less}
-use Rattle.wish_list.proofs.Laws.Sound.{AllGoodNames}
+use Rattle.wish_list.proofs.Laws.Sound.{AllGoodNames, good-rest}
 use Rattle.wish_list.proofs.Laws.NameTexts.{names_of-named}
 use Rattle.wish_list.proofs.Laws.AcceptedPaths.{HasPassed, HaveAllPassed, names_of-good}
 use Rattle.master.specs.Inner.Entries.{front_of, paths_below, paths_with, entry_paths}
@@ -44,9 +45,7 @@ rise-rest last before (path ∷ paths) p = ((p.0).in_order, rise-rest path (last
 
 -- a file is no directory of a later one
 any-none : (path : List ℕ) (files : List (List ℕ)) (i : ℕ) → i < length files → list_any (λ file. is_used_by file path) files ≡ false → is_used_by (get_or files i []) path ≡ false
-any-none path [] i h e = absurd (omega arith)
-any-none path (file ∷ files) zero h e = (or-false (is_used_by file path) _ e).0
-any-none path (file ∷ files) (suc i) h e = any-none path files i (omega arith) (or-false (is_used_by file path) _ e).1
+any-none path files i h e = is_false (is_used_by (get_or files i []) path) (λ u. false≢true (sym e ∙ list_any_at (λ file. is_used_by file path) files i [] h u))
 
 unused-behind : (before paths : List (List ℕ)) (i j : ℕ) → HaveAllPassed before paths → i < length before → j < length paths → is_used_by (get_or before i []) (get_or paths j []) ≡ false
 unused-behind before [] i j p h l = absurd (omega arith)
@@ -86,11 +85,6 @@ rise-below last front (name ∷ []) texts h g b r = (b, r)
 rise-below last front (name ∷ next ∷ names) texts h g b r =
     let e : List ℕ = front ++ (name ++ (0x2F ∷ [])) in
     (b, rise-below e e (next ∷ names) texts (omega arith) g.1 (first-above e (next ∷ names) (omega arith) g.1) (rw (joined-behind front name next names) r))
-
-good-rest : (n : ℕ) (names : List (List ℕ)) → AllGoodNames names → AllGoodNames (drop n names)
-good-rest zero names g = g
-good-rest (suc n) [] g = tt
-good-rest (suc n) (name ∷ names) g = good-rest n names g.1
 
 -- ---- the entries of all files
 

@@ -10,7 +10,6 @@ use Rattle.tree.proofs.Laws.Nesting.{ended, parent_is}
 use Rattle.listing.specs.Lines.{ending, path_of}
 use Rattle.listing.proofs.Paths.{path-step}
 use Rattle.wish_list.specs.Tree.{Wish, common, below}
-use Rattle.wish_list.proofs.Laws.Below.{below-falls}
 use Rattle.master.specs.Inner.Entries.{front_of}
 
 -- ---- the first names of a path
@@ -37,13 +36,6 @@ front-shared (suc i) (a ∷ b ∷ xs) (c ∷ d ∷ ys) h = go (are_same_bytes a 
     go true e h ih = rw (same-eq a c e, ih (omega arith))
     go false e h ih = absurd (omega arith)
 
-pub below-least : (i n : ℕ) (before : List (List ℕ)) (ws : List Wish) → i ≤ n → below n before ws ≤ below i before ws
-below-least i zero before ws h = let e : i ≡ 0 = omega arith in rw e (omega arith)
-below-least i (suc n) before ws h = ⊎_elim
-    (λ (l : i < suc n). omega (arith, below-falls n before ws, below-least i n before ws (omega arith)))
-    (λ (l : suc n ≤ i). let e : i ≡ suc n = omega arith in rw e (omega arith))
-    (lt-or-le i (suc n))
-
 -- ---- the directories around an entry
 
 -- entry `at` is the i-th directory on the path `names` of a file whose entries end before entry `next`, and which ws follow; the
@@ -69,7 +61,7 @@ module _ {nodes : List Node} {k i next : ℕ} {names : List (List ℕ)} {ws : Li
   }
 
 -- the entry is nested in the innermost one
-pub around-parent : (nodes : List Node) (k i next : ℕ) (names : List (List ℕ)) (ws : List Wish) → (a : Around nodes k i next names ws k) → k < next → parent_of nodes k ≡ a.at
+around-parent : (nodes : List Node) (k i next : ℕ) (names : List (List ℕ)) (ws : List Wish) → (a : Around nodes k i next names ws k) → k < next → parent_of nodes k ≡ a.at
 around-parent nodes k i next names ws a h =
     parent_is nodes k a.at (a.before, rw a.node (lt-ltb k (next + below i names ws) (omega arith))) (λ j p q. ended k (get_or nodes j empty_root) (a.ends j p q))
 

@@ -11,11 +11,12 @@ use Rattle.listing.specs.Lines.{ending, path_of}
 use Rattle.listing.proofs.Paths.{path-step}
 use Rattle.wish_list.specs.Paths.{is_below}
 use Rattle.wish_list.specs.Tree.{Wish, wishes, tree_from, tree}
+use Rattle.wish_list.proofs.Order.{below-itself}
 use Rattle.wish_list.proofs.Laws.NameTexts.{wishes-named}
 use Rattle.wish_list.proofs.Laws.AcceptedPaths.{HaveAllPassed}
 use Rattle.master.specs.Inner.Entries.{entry_paths}
 use Rattle.master.proofs.Laws.NewPaths.{entries-paths-length, path_of-tree}
-use Rattle.master.proofs.Laws.Order.{Begins, begins-test, begins-self, begins-trans, below-itself, below-not_behind}
+use Rattle.master.proofs.Laws.Order.{Begins, begins-test, begins-self, begins-trans, below-not_behind}
 use Rattle.master.proofs.Laws.OrderEntries.{rise-at, unused-at, entries-rise, paths-rise}
 use Rattle.master.proofs.Laws.FoundEntries.{IsFor, entry-for}
 
@@ -42,7 +43,7 @@ module _ (paths : List (List ℕ)) (sizes offsets : List ℕ) (passed : HaveAllP
   unfolding tree
   length-past_root = refl
 
-  pub texts-past_root : length texts ≡ length xs
+  texts-past_root : length texts ≡ length xs
   texts-past_root = omega (arith, entries-paths-length ws, length-past_root)
 
   pub text-past_root : (n : ℕ) → n < length xs → path_of nodes (suc n) ≡ 0x2F ∷ get_or texts n []
@@ -51,7 +52,7 @@ module _ (paths : List (List ℕ)) (sizes offsets : List ℕ) (passed : HaveAllP
   pub texts-rise : (i j : ℕ) → i < j → j < length xs → is_below (get_or texts i []) (get_or texts j []) ≡ true
   texts-rise i j h l = rise-at [] texts i j (entries-rise paths sizes offsets passed) h (omega (arith, texts-past_root))
 
-  pub one-text : (i j : ℕ) → i < length xs → j < length xs → get_or texts i [] ≡ get_or texts j [] → i ≡ j
+  one-text : (i j : ℕ) → i < length xs → j < length xs → get_or texts i [] ≡ get_or texts j [] → i ≡ j
   one-text i j h l e =
       ⊎_elim (λ (b : i < j). absurd (false≢true (sym (below-itself (get_or texts j [])) ∙ rw e at (texts-rise i j b l))))
       (λ b. ⊎_elim (λ (e : i ≡ j). e) (λ (b : j < i). absurd (false≢true (sym (below-itself (get_or texts j [])) ∙ rw e at (texts-rise j i b h)))) b) (lt-or-eq-or-gt i j)

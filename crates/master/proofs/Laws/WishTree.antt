@@ -83,12 +83,12 @@ module _ (paths : List (List ℕ)) (sizes offsets : List ℕ) (passed : HaveAllP
           (rw (at i) r.directory, begins-test (path_of nodes (suc g.entry)) (path_of nodes (suc i)) ((r.on).0, rw (p, q) (ap (λ (s : List ℕ). 0x2F ∷ s) (r.on).1)))
 
   -- LAW: each directory is there for a file, and stands just before its first one
-  pub directory-first : (d : ℕ) → 0 < d → d < length nodes → is_directory (get_or nodes d empty_root) ≡ true → (f : ℕ) × IsFirstBelow nodes d f
+  directory-first : (d : ℕ) → 0 < d → d < length nodes → is_directory (get_or nodes d empty_root) ≡ true → (f : ℕ) × IsFirstBelow nodes d f
   directory-first zero h l d = absurd (omega arith)
   directory-first (suc n) h l d = first-below n (omega (arith, length-past_root paths sizes offsets passed)) (rw (node-past_root paths sizes offsets passed n) at d)
 
   -- LAW: the path of each file leads to an entry with its offset and size
-  pub path-found : IsWellFormed nodes → (i : ℕ) → i < length paths → IsFound nodes (get_or paths i []) (get_or offsets i 0) (get_or sizes i 0)
+  path-found : IsWellFormed nodes → (i : ℕ) → i < length paths → IsFound nodes (get_or paths i []) (get_or offsets i 0) (get_or sizes i 0)
   path-found w i h =
       let g = entry-of 1 [] paths sizes offsets i h in
       let n : get_or nodes (suc g.entry) empty_root ≡ file g.name (get_or offsets i 0) (get_or sizes i 0) = node-past_root paths sizes offsets passed g.entry ∙ g.node in

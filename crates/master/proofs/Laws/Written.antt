@@ -1,6 +1,5 @@
 -- A new master's bytes: its header reads as it was made, its table stands behind it, and all else below the disc end is 0. Assumes nothing.
-use Rattle.std.specs.Prelude.{ℕ, ◌+◌, ◌^◌, ◌<◌, ◌≤◌, ◌≡◌, refl, List, length, get_or, replicate}
-use Rattle.std.specs.Prelude.{Ok, None, Bool, true, false, cond, zero, suc}
+use Rattle.std.specs.Prelude.{ℕ, ◌+◌, ◌^◌, ◌<◌, ◌≤◌, ◌≡◌, refl, List, length, get_or, replicate, Ok, None, Bool, true, false, cond, zero, suc}
 use Rattle.std.proofs.Common.{ap, ◌∙◌, arith, zero-add}
 use Rattle.std.proofs.lemmas.List.{length-replicate}
 use Rattle.endian.specs.Bytes.{be32, put}
@@ -84,7 +83,7 @@ module _ (m : Master) (image : List ℕ) (f : Fits m image) where
   pub whole : 0x440 ≤ length blank
   whole = omega (arith, length-blank, f.table, f.room)
 
-  pub length-head : length head ≡ length image
+  length-head : length head ≡ length image
   length-head = length-written h sized blank whole ∙ length-blank
 
   pub table-fits : 0x440 + length tab ≤ length head
@@ -112,7 +111,7 @@ module _ (m : Master) (image : List ℕ) (f : Fits m image) where
         is-gcn = g;
       }
 
-  pub dol-offset-new : dol_offset new ≡ 0
+  dol-offset-new : dol_offset new ≡ 0
   unfolding header_of header_with blank_header
   dol-offset-new = word-stays 0x420 (omega arith) ∙ ap (λ (x : DiscHeader). x.dol_offset) read
 
@@ -120,7 +119,7 @@ module _ (m : Master) (image : List ℕ) (f : Fits m image) where
   unfolding header_of header_with blank_header
   fst-offset-new = word-stays 0x424 (omega arith) ∙ ap (λ (x : DiscHeader). x.fst_offset) read
 
-  pub fst-size-new : fst_size new ≡ table_size m
+  fst-size-new : fst_size new ≡ table_size m
   unfolding header_of header_with blank_header
   fst-size-new = word-stays 0x428 (omega arith) ∙ ap (λ (x : DiscHeader). x.fst_size) read
 

@@ -26,7 +26,7 @@ whole_by : (o s n : ℕ) → o % 0x8000 ≡ 0 → n % 0x8000 ≡ 0 → o + s ≤
 unfolding align_up
 whole_by o s n a b h = omega arith
 
-pub table-by : (t n : ℕ) → n % 0x8000 ≡ 0 → t ≤ n → whole_size t ≤ n
+table-by : (t n : ℕ) → n % 0x8000 ≡ 0 → t ≤ n → whole_size t ≤ n
 unfolding align_up
 table-by t n b h = omega arith
 
@@ -38,7 +38,7 @@ pub whole-unused : (s : ℕ) → s + unused_rest s ≡ whole_size s
 unfolding align_up
 whole-unused s = omega arith
 
-pub unused-most : (ss : List ℕ) (i : ℕ) → unused_rest (get_or ss i 0) ≤ largest_rest ss
+unused-most : (ss : List ℕ) (i : ℕ) → unused_rest (get_or ss i 0) ≤ largest_rest ss
 unfolding largest_rest
 unused-most [] i = unfold align_up in omega arith
 unused-most (s ∷ ss) zero = omega arith

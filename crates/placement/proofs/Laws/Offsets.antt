@@ -10,7 +10,7 @@ use Rattle.placement.proofs.Laws.Sound.{start-some, sound, length-with-last, emp
 
 -- ---- LAW: each offset
 
-pub offset-before : (k p : ℕ) (ss : List ℕ) (i : ℕ) → i < length ss → i < k → get_or (offsets_with_last k p ss) i 0 ≡ offset_at (p + whole_total (take i ss)) (get_or ss i 0)
+offset-before : (k p : ℕ) (ss : List ℕ) (i : ℕ) → i < length ss → i < k → get_or (offsets_with_last k p ss) i 0 ≡ offset_at (p + whole_total (take i ss)) (get_or ss i 0)
 unfolding offsets_with_last whole_total
 offset-before k p [] i h l = absurd (omega arith)
 offset-before zero p (s ∷ ss) i h l = absurd (omega arith)
@@ -19,7 +19,7 @@ offset-before (suc k) p (s ∷ ss) (suc i) h l =
     let e : p + (whole_size s + whole_total (take i ss)) ≡ p + whole_size s + whole_total (take i ss) = omega arith in
     rw e (offset-before k (p + whole_size s) ss i (omega arith) (omega arith))
 
-pub offset-last : (k p : ℕ) (ss : List ℕ) → k < length ss → get_or (offsets_with_last k p ss) k 0 ≡ offset_at (p + whole_total ss - whole_size (get_or ss k 0)) (get_or ss k 0)
+offset-last : (k p : ℕ) (ss : List ℕ) → k < length ss → get_or (offsets_with_last k p ss) k 0 ≡ offset_at (p + whole_total ss - whole_size (get_or ss k 0)) (get_or ss k 0)
 unfolding offsets_with_last whole_total
 offset-last k p [] h = absurd (omega arith)
 offset-last zero p (s ∷ ss) h = let e : p + (whole_size s + whole_total ss) - whole_size s ≡ p + whole_total ss = omega arith in rw e
@@ -35,7 +35,7 @@ offset-in-order p (s ∷ ss) (suc i) h =
     let e : p + (whole_size s + whole_total (take i ss)) ≡ p + whole_size s + whole_total (take i ss) = omega arith in
     rw e (offset-in-order (p + whole_size s) ss i (omega arith))
 
-pub offset-behind : (k p : ℕ) (ss : List ℕ) (i : ℕ) → i < length ss → k < i → get_or (offsets_with_last k p ss) i 0 ≡ offset_at (p + whole_total (take i ss) - whole_size (get_or ss k 0)) (get_or ss i 0)
+offset-behind : (k p : ℕ) (ss : List ℕ) (i : ℕ) → i < length ss → k < i → get_or (offsets_with_last k p ss) i 0 ≡ offset_at (p + whole_total (take i ss) - whole_size (get_or ss k 0)) (get_or ss i 0)
 unfolding offsets_with_last whole_total
 offset-behind k p [] i h l = absurd (omega arith)
 offset-behind k p (s ∷ ss) zero h l = absurd (omega arith)
@@ -102,7 +102,7 @@ pub next-most : (k p : ℕ) (ss : List ℕ) (i n : ℕ) → IsNext k p ss i n �
 next-most k p ss i n c = omega (arith, c.sum)
 
 -- LAW: there the next file lies, and file k behind all others
-pub offset-next : (k p : ℕ) (ss : List ℕ) (i n : ℕ) → i < length ss → (i ≡ k → ⊥) → IsNext k p ss i n → get_or (offsets_with_last k p ss) i 0 ≡ offset_at n (get_or ss i 0)
+offset-next : (k p : ℕ) (ss : List ℕ) (i n : ℕ) → i < length ss → (i ≡ k → ⊥) → IsNext k p ss i n → get_or (offsets_with_last k p ss) i 0 ≡ offset_at n (get_or ss i 0)
 offset-next k p ss i n h d c =
     ⊎_elim
     (λ (l : k < i).

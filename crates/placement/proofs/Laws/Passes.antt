@@ -17,7 +17,7 @@ sum-next [] i h = absurd (omega arith)
 sum-next (s ∷ ss) zero h = omega arith
 sum-next (s ∷ ss) (suc i) h = omega (arith, sum-next ss i (omega arith))
 
-pub largest-next : (ss : List ℕ) (i : ℕ) → i < length ss → largest_rest (take (suc i) ss) ≡ max (largest_rest (take i ss)) (unused_rest (get_or ss i 0))
+largest-next : (ss : List ℕ) (i : ℕ) → i < length ss → largest_rest (take (suc i) ss) ≡ max (largest_rest (take i ss)) (unused_rest (get_or ss i 0))
 unfolding largest_rest
 largest-next [] i h = absurd (omega arith)
 largest-next (s ∷ ss) zero h = omega arith
@@ -30,7 +30,7 @@ pick u m x i k =
     (λ h. ⊎_elim (λ l. rw (le-ltb (max u m) x h, lt-leb m u l, lt-leb (max m x) u (omega arith), le-ltb m x (omega arith)))
     (λ l. rw (le-ltb (max u m) x h, le-leb m u l, le-leb (max m x) u (omega arith))) (lt-or-le u m)) (lt-or-le (max u m) x)
 
-pub last-next : (ss : List ℕ) (i : ℕ) → i < length ss → last_file (take (suc i) ss) ≡ (if ltb (largest_rest (take i ss)) (unused_rest (get_or ss i 0)) then i else last_file (take i ss))
+last-next : (ss : List ℕ) (i : ℕ) → i < length ss → last_file (take (suc i) ss) ≡ (if ltb (largest_rest (take i ss)) (unused_rest (get_or ss i 0)) then i else last_file (take i ss))
 unfolding last_file largest_rest
 last-next [] i h = absurd (omega arith)
 last-next (s ∷ ss) zero h = rw (le-leb 0 (unused_rest s) (omega arith)) (go (ltb 0 (unused_rest s)))

@@ -1,4 +1,4 @@
--- A placement against the layout test of opening (14): header, table and files as used regions neither overlap nor pass the disc end, exactly if the files
+-- A placement against the layout test of opening: header, table and files as used regions neither overlap nor pass the disc end, exactly if the files
 -- are placed, but for the multiples of 0x8000, which the test does not ask for. Assumes nothing.
 use Rattle.std.specs.Prelude.{ℕ, zero, suc, ◌+◌, ◌%◌, ◌<◌, ◌≤◌, ◌≡◌, refl, Bool, true, ◌&&◌, ◌||◌, List, [], ◌∷◌, leb, eqb, length, get_or}
 use Rattle.std.proofs.Common.{⊎_elim, arith, le-leb, leb-true, eqb-true, eq-eqb}
@@ -8,10 +8,8 @@ use Rattle.space.specs.Used.{used_regions}
 use Rattle.space.specs.Layout.{are_disjoint, is_disjoint_from_all, are_pairwise_disjoint, are_disjoint_below}
 use Rattle.space.specs.Laws.UsedLaws.{is_inside-in, lies_within, files_within, are_disjoint-below-used}
 use Rattle.space.specs.Laws.LayoutLaws.{is_inside-from, is_inside-to, is_inside-are_disjoint, are_disjoint-is_inside}
-use Rattle.placement.specs.Placement.{is_placeable, offsets_of}
 use Rattle.placement.specs.Places.{IsPlaced}
 use Rattle.placement.specs.Theorem.{regions_of}
-use Rattle.placement.proofs.Laws.Sound.{sound}
 
 abbrev file_at : List ℕ → List ℕ → ℕ → DiscRegion
 file_at ss os i = record { offset = get_or os i 0; size = get_or ss i 0 }
@@ -104,7 +102,3 @@ passes-placed t d ss os z n m h = record {
 
     parts : (leb t d && rest) ≡ true
     parts = rw (are_disjoint-below-used t d (regions_of ss os) z) at h
-
--- LAW: where the files fit, the placement passes 14
-pub offsets_of-passes : (t d : ℕ) (sizes : List ℕ) → 0 < t → is_placeable t d sizes ≡ true → are_disjoint_below d (used_regions t (regions_of sizes (offsets_of t sizes))) ≡ true
-offsets_of-passes t d sizes z h = placed-passes t d sizes (offsets_of t sizes) z (sound t d sizes h)

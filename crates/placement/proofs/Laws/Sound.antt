@@ -85,7 +85,7 @@ rising-before (suc k) p (s ∷ ss) zero (suc j) m u v l y z = rw (start-some p s
 rising-before (suc k) p (s ∷ ss) (suc i) (suc j) m u v l y z = rising-before k (p + whole_size s) ss i j (next_multiple p s m) (λ e. u (omega arith)) (λ e. v (omega arith)) (omega arith) y z
 
 -- LAW: the last file ends, in whole clusters, where all files together end
-pub last-ends : (k p : ℕ) (ss : List ℕ) → 0 < get_or ss k 0 → get_or (offsets_with_last k p ss) k 0 + whole_size (get_or ss k 0) ≡ p + whole_total ss
+last-ends : (k p : ℕ) (ss : List ℕ) → 0 < get_or ss k 0 → get_or (offsets_with_last k p ss) k 0 + whole_size (get_or ss k 0) ≡ p + whole_total ss
 unfolding offsets_with_last whole_total
 last-ends k p [] z = absurd (omega arith)
 last-ends zero p (s ∷ ss) z = rw (start-some (p + whole_total ss) s z) (omega arith)
@@ -133,7 +133,7 @@ last-largest (s ∷ ss) = go (leb (largest_rest ss) (unused_rest s)) refl (last-
 
 -- ---- LAW
 
-pub same-or-other : (i k : ℕ) → (i ≡ k) ⊎ (i ≡ k → ⊥)
+same-or-other : (i k : ℕ) → (i ≡ k) ⊎ (i ≡ k → ⊥)
 same-or-other i k = go (eqb i k) refl
   where
     go : (b : Bool) → eqb i k ≡ b → (i ≡ k) ⊎ (i ≡ k → ⊥)

@@ -1,35 +1,19 @@
 -- What the tests of a wish list's paths give where none refuses: good names, one path for each size, a well-formed tree. Assumes nothing.
-use Rattle.std.specs.Prelude.{Ok, ℕ, suc, ◌+◌, ◌^◌, ◌<◌, ◌≤◌, ◌≡◌, refl, Bool, true, false, not, ◌||◌, cond, List, [], ◌∷◌, length, ltb, eqb, get_or}
-use Rattle.std.specs.List.{list_all, list_any, count_by}
-use Rattle.std.proofs.Common.{sym, ◌∙◌, arith, ltb-false}
-use Rattle.std.proofs.lemmas.Bool.{eqb-true}
-use Rattle.std.proofs.lemmas.List.Sums.{sum_by-cons}
-use borrow.Author.Tests.{not-false}
+use Rattle.std.specs.Prelude.{Ok, ℕ, suc, ◌^◌, ◌<◌, ◌≤◌, ◌≡◌, true, false, not, List, [], ◌∷◌, length, ltb, get_or}
+use Rattle.std.specs.List.{list_all, list_any}
+use Rattle.std.proofs.Common.{ltb-false}
+use Rattle.std.proofs.lemmas.Bool.{not-false}
 use mathlib.Core.List.{tail}
-use Rattle.refusal.specs.declared.Refusal.TheVariants.{MissingNullTerminator, LimitOrMemory, InvalidNameByte, UnsafeName, AlreadyExists}
+use Rattle.refusal.specs.declared.Refusal.TheVariants.{LimitOrMemory, InvalidNameByte, UnsafeName, AlreadyExists}
 use Rattle.refusal.specs.Laws.Chains.{refuse-passed, first-passed}
-use Rattle.refusal.specs.Laws.Tests.{and_left, and_right, or-false}
+use Rattle.refusal.specs.Laws.Tests.{and_left, and_right}
 use Rattle.tree.specs.Table.{is_plain, is_safe}
 use Rattle.tree.specs.Inner.WellFormed.{IsWellFormed}
-use Rattle.wish_list.specs.Paths.{is_zero, onto_path, paths_in, has_rest, ends_verdict, names_of, is_used_by, is_in_order, path_verdict, paths_verdict, list_verdict}
+use Rattle.wish_list.specs.Paths.{paths_in, has_rest, ends_verdict, names_of, is_used_by, is_in_order, path_verdict, paths_verdict, list_verdict}
 use Rattle.wish_list.specs.Tree.{wishes, tree}
+use Rattle.wish_list.proofs.Judging.{ends-passed}
 use Rattle.wish_list.proofs.Laws.Sound.{AllGoodNames, AllGoodWishes, tree-sound}
 use Rattle.wish_list.proofs.Laws.NameTexts.{names_of-named}
-
--- ---- as many paths as zero bytes
-
-length-onto_path : (b : ℕ) (paths : List (List ℕ)) → length (onto_path b paths) ≡ length paths
-length-onto_path b [] = refl
-length-onto_path b (path ∷ paths) = refl
-
-pub length-paths_in : (bytes : List ℕ) → length (paths_in bytes) ≡ count_by is_zero bytes
-unfolding paths_in
-length-paths_in [] = refl
-length-paths_in (b ∷ s) = go (is_zero b) (length-paths_in s) ∙ sym (sum_by-cons (λ (x : ℕ). cond (is_zero x) 1 0) b s)
-  where
-    go : (t : Bool) → length (paths_in s) ≡ count_by is_zero s → length (cond t ([] ∷ paths_in s) (onto_path b (paths_in s))) ≡ cond t 1 0 + count_by is_zero s
-    go true ih = omega arith
-    go false ih = omega (arith, length-onto_path b (paths_in s))
 
 -- ---- what each path has passed
 
@@ -45,7 +29,7 @@ abbrev pub HaveAllPassed : List (List ℕ) → List (List ℕ) → Type 0
 HaveAllPassed before [] = Unit {0}
 HaveAllPassed before (path ∷ paths) = HasPassed before path × HaveAllPassed (path ∷ before) paths
 
-pub path-passed : (before : List (List ℕ)) (path : List ℕ) → path_verdict before path ≡ Ok tt → HasPassed before path
+path-passed : (before : List (List ℕ)) (path : List ℕ) → path_verdict before path ≡ Ok tt → HasPassed before path
 unfolding path_verdict
 path-passed before path e =
     let e₁ = refuse-passed (ltb 1024 (length path)) LimitOrMemory _ e in
@@ -61,7 +45,7 @@ path-passed before path e =
       unused = e₅.0;
     }
 
-pub paths-passed : (before paths : List (List ℕ)) → paths_verdict before paths ≡ Ok tt → HaveAllPassed before paths
+paths-passed : (before paths : List (List ℕ)) → paths_verdict before paths ≡ Ok tt → HaveAllPassed before paths
 unfolding paths_verdict
 paths-passed before [] e = tt
 paths-passed before (path ∷ paths) e =
@@ -77,13 +61,8 @@ pub list-accepted : (bytes : List ℕ) (n : ℕ) → list_verdict bytes n ≡ Ok
 unfolding list_verdict
 list-accepted bytes n e =
     let p = first-passed (ends_verdict bytes n) (paths_verdict [] (paths_in bytes)) e in
-    let r = refuse-passed (has_rest bytes || not (eqb (count_by is_zero bytes) n)) MissingNullTerminator _ p.0 in
-    let o = or-false (has_rest bytes) (not (eqb (count_by is_zero bytes) n)) r.0 in
-    record {
-      ended = o.0;
-      counted = length-paths_in bytes ∙ eqb-true (count_by is_zero bytes) n (not-false _ o.1);
-      passed = paths-passed [] (paths_in bytes) p.1;
-    }
+    let o = ends-passed bytes n p.0 in
+    record { ended = o.0; counted = o.1; passed = paths-passed [] (paths_in bytes) p.1 }
 
 -- ---- the names are good
 
@@ -103,7 +82,7 @@ tail_words : (s : List ℕ) → AllWords s → AllWords (tail s)
 tail_words [] a i = a 0
 tail_words (x ∷ s) a i = a (suc i)
 
-pub wishes-good : (before paths : List (List ℕ)) (sizes offsets : List ℕ) → HaveAllPassed before paths → AllWords sizes → AllWords offsets → AllGoodWishes (wishes paths sizes offsets)
+wishes-good : (before paths : List (List ℕ)) (sizes offsets : List ℕ) → HaveAllPassed before paths → AllWords sizes → AllWords offsets → AllGoodWishes (wishes paths sizes offsets)
 unfolding wishes
 wishes-good before [] sizes offsets p a b = tt
 wishes-good before (path ∷ paths) sizes offsets p a b = (

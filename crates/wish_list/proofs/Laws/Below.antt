@@ -1,8 +1,9 @@
 -- How many entries the files of a wish list bring, and how many of them are in a directory. Assumes nothing.
 use Rattle.std.specs.Prelude.{ℕ, zero, suc, ◌+◌, ◌-◌, ◌<◌, ◌≤◌, ◌≡◌, refl, Bool, true, false, cond, List, [], ◌∷◌, length, drop, leb}
-use Rattle.std.proofs.Common.{ap, ◌∙◌, arith, leb-true, le-leb, length-append, length-drop}
+use Rattle.std.proofs.Common.{ap, ◌∙◌, ⊎_elim, arith, leb-true, le-leb, length-append, length-drop}
 use Rattle.endian.specs.Bytes.{are_same_bytes}
 use Rattle.std.proofs.lemmas.Bool.{lt-leb}
+use Rattle.refusal.specs.Laws.Tests.{lt-or-le}
 use Rattle.wish_list.specs.Tree.{Wish, common, added, below, entries_from, entries_with, tree_from, tree}
 
 -- ---- a file's own name is no directory that two files are in
@@ -19,7 +20,7 @@ common-less (a ∷ b ∷ xs) (c ∷ d ∷ ys) h = go (are_same_bytes a c) (commo
     go true ih = omega arith
     go false ih = omega arith
 
-pub common-less_before : (before names : List (List ℕ)) → 0 < length before → common before names < length before
+common-less_before : (before names : List (List ℕ)) → 0 < length before → common before names < length before
 unfolding common
 common-less_before [] names h = h
 common-less_before (a ∷ []) names h = h
@@ -74,13 +75,22 @@ below-falls n before (w ∷ ws) = go (leb (suc n) (common before w.names)) refl 
     go true e ih = rw (le-leb n (common before w.names) (omega (arith, leb-true (suc n) (common before w.names) e))) (omega arith)
     go false e ih = omega arith
 
-pub below-most : (n : ℕ) (before : List (List ℕ)) (ws : List Wish) → below n before ws ≤ below 0 before ws
-below-most zero before ws = omega arith
-below-most (suc n) before ws = omega (arith, below-falls n before ws, below-most n before ws)
+-- and so has one that is further in
+pub below-least : (i n : ℕ) (before : List (List ℕ)) (ws : List Wish) → i ≤ n → below n before ws ≤ below i before ws
+below-least i zero before ws h = let e : i ≡ 0 = omega arith in rw e (omega arith)
+below-least i (suc n) before ws h = ⊎_elim
+    (λ (l : i < suc n). omega (arith, below-falls n before ws, below-least i n before ws (omega arith)))
+    (λ (l : suc n ≤ i). let e : i ≡ suc n = omega arith in rw e (omega arith))
+    (lt-or-le i (suc n))
+
+-- each file brings an entry
+pub below-files : (before : List (List ℕ)) (ws : List Wish) → AllNamed ws → length ws ≤ below 0 before ws
+below-files before [] h = omega arith
+below-files before (w ∷ ws) h = omega (arith, below-zero before w ws, added-least before w.names h.0, below-files w.names ws h.1)
 
 -- ---- lengths
 
-pub length-entries_from : (k n : ℕ) (names : List (List ℕ)) (w : Wish) (ws : List Wish) → length (entries_from k n names w ws) ≡ length names
+length-entries_from : (k n : ℕ) (names : List (List ℕ)) (w : Wish) (ws : List Wish) → length (entries_from k n names w ws) ≡ length names
 unfolding entries_from
 length-entries_from k n [] w ws = refl
 length-entries_from k n (name ∷ []) w ws = refl

@@ -1,11 +1,11 @@
--- The tree of a wish list is well formed, and no deeper than its paths. Assumes nothing.
+-- The tree of a wish list is well formed. Assumes nothing.
 use Rattle.std.specs.Prelude.{ℕ, zero, suc, ◌+◌, ◌-◌, ◌^◌, ◌<◌, ◌≤◌, ◌≡◌, refl, Bool, true, false, List, [], ◌∷◌, ◌++◌, length, drop, leb}
 use Rattle.std.proofs.Common.{ap, ◌∙◌, arith, leb-true, leb-false, le-leb, length-drop}
 use Rattle.std.proofs.lemmas.Bool.{lt-leb}
 use Rattle.tree.specs.Table.{Node, top, dirs_open_at}
 use Rattle.tree.specs.Inner.WellFormed.{IsGoodName, IsSound, IsWellFormed}
 use Rattle.wish_list.specs.Tree.{Wish, common, added, below, entries_from, tree_from, tree}
-use Rattle.wish_list.proofs.Laws.Below.{AllNamed, common-less, common-most, added-least, below-in, below-out, below-zero, below-falls, below-most, length-tree_from}
+use Rattle.wish_list.proofs.Laws.Below.{common-less, common-most, added-least, below-in, below-out, below-zero, below-falls, below-least, length-tree_from}
 
 -- ---- the directories open where a file was written
 
@@ -14,7 +14,7 @@ unfoldable pub ends : ℕ → List (List ℕ) → List Wish → ℕ → List ℕ
 ends k before ws zero = (k + below 0 before ws) ∷ []
 ends k before ws (suc m) = (k + below (suc m) before ws) ∷ ends k before ws m
 
-pub top-ends : (k : ℕ) (before : List (List ℕ)) (ws : List Wish) (m : ℕ) → top (ends k before ws m) ≡ k + below m before ws
+top-ends : (k : ℕ) (before : List (List ℕ)) (ws : List Wish) (m : ℕ) → top (ends k before ws m) ≡ k + below m before ws
 unfolding ends
 top-ends k before ws zero = refl
 top-ends k before ws (suc m) = refl
@@ -76,10 +76,10 @@ abbrev pub AllGoodWishes : List Wish → Type 0
 AllGoodWishes [] = Unit {0}
 AllGoodWishes (w ∷ ws) = IsGoodWish w × AllGoodWishes ws
 
-good_rest : (n : ℕ) (names : List (List ℕ)) → AllGoodNames names → AllGoodNames (drop n names)
-good_rest zero names g = g
-good_rest (suc n) [] g = tt
-good_rest (suc n) (name ∷ names) g = good_rest n names g.1
+pub good-rest : (n : ℕ) (names : List (List ℕ)) → AllGoodNames names → AllGoodNames (drop n names)
+good-rest zero names g = g
+good-rest (suc n) [] g = tt
+good-rest (suc n) (name ∷ names) g = good-rest n names g.1
 
 -- the entries of a file, and what follows them, from its n-th name on: `next` is the entry behind them
 entries-sound : (c k n next : ℕ) (dirs : List ℕ) (names : List (List ℕ)) (w : Wish) (ws : List Wish) (rest : List Node) →
@@ -97,7 +97,7 @@ entries-sound c k n next dirs (name ∷ inner ∷ names) w ws rest named all las
     let m : k + length (name ∷ inner ∷ names) ≡ next = last in
     let t : top (dirs_open_at k dirs) ≡ next + below n w.names ws = ap top opened ∙ top-ends next w.names ws n in (
       good.0,
-      rw m ((omega arith, omega (arith, below-most (suc n) w.names ws), omega (arith, below-falls n w.names ws))),
+      rw m ((omega arith, omega (arith, below-least 0 (suc n) w.names ws (omega arith)), omega (arith, below-falls n w.names ws))),
       rw (opened, m)
           (entries-sound c (suc k) (suc n) next ((next + below (suc n) w.names ws) ∷ ends next w.names ws n) (inner ∷ names) w ws rest (omega arith) (omega arith) (omega arith) whole good.1 offset size
           (none-closed (suc k) next w.names ws (suc n) (omega arith)) sound),
@@ -111,7 +111,7 @@ tree_from-sound c k before (w ∷ ws) g e =
     let s : common before w.names < length w.names = common-less before w.names (g.0).named in
     let z : k + added before w.names + below 0 w.names ws ≡ c = omega (arith, below-zero before w ws) in
     entries-sound c k (common before w.names) (k + added before w.names) (ends k before (w ∷ ws) (length before - 1)) (drop (common before w.names) w.names) w ws (tree_from (k + added before w.names) w.names ws)
-    (omega arith) (omega arith) (omega arith) z (good_rest (common before w.names) w.names (g.0).good) (g.0).offset_fits (g.0).size_fits
+    (omega arith) (omega arith) (omega arith) z (good-rest (common before w.names) w.names (g.0).good) (g.0).offset_fits (g.0).size_fits
     (ends-open k before w ws (length before - 1) (g.0).named (common-most before w.names)) (tree_from-sound c (k + added before w.names) w.names ws g.1 z)
 
 pub tree-sound : (ws : List Wish) → AllGoodWishes ws → IsWellFormed (tree ws)
@@ -123,8 +123,3 @@ tree-sound ws g =
       root = rw l;
       sound = rw s at (tree_from-sound (suc (length (tree_from 1 [] ws))) 1 [] ws g (omega arith));
     }
-
--- each of them has a name
-pub good-named : (ws : List Wish) → AllGoodWishes ws → AllNamed ws
-good-named [] g = tt
-good-named (w ∷ ws) g = ((g.0).named, good-named ws g.1)

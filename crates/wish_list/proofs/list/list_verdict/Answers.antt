@@ -2,7 +2,7 @@
 use Rattle.std.proofs.Common.{sym, ◌∙◌}
 use Rattle.std.proofs.lemmas.Result.{err_from_is_err_and}
 use Rattle.wish_list.specs.Paths.{list_verdict}
-use Rattle.wish_list.proofs.Judging.{ended-paths}
+use Rattle.wish_list.proofs.Judging.{ends-passed}
 use Rattle.wish_list.proofs.list.list_verdict.Goals as goal
 
 pub returns-in_err-ends_verdict : goal.returns-in_err-ends_verdict
@@ -12,7 +12,7 @@ returns-in_err-ends_verdict c =
     rw (p.1, p.2, ← c.ends_verdict.ensures, c.in_err-ends_verdict.was)
 
 pub paths_verdict-requires : goal.paths_verdict-requires
-paths_verdict-requires c = ended-paths c.args.paths.now c.args.count (sym c.ends_verdict.ensures ∙ c.in_ok-ends_verdict.was)
+paths_verdict-requires c = (ends-passed c.args.paths.now c.args.count (sym c.ends_verdict.ensures ∙ c.in_ok-ends_verdict.was)).1
 
 pub returns : goal.returns
 unfolding list_verdict
