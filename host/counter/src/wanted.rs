@@ -55,12 +55,19 @@ impl Files {
         Ok(files)
     }
 
-    /// Those of a folder of the system, and of the folders in it.
-    pub fn found(folder: &Path) -> Outcome<Files> {
+    /// Those of a folder of the system, and of the folders in it, which are not to have the new image, nor one
+    /// that a cut left unfinished.
+    pub fn found(folder: &Path, out: &Path) -> Outcome<Files> {
         let told = fs::metadata(folder).map_err(|e| cannot_open(folder, &e))?;
         if !told.is_dir() {
             let text = format!("{}: a folder is wanted", names::file(folder));
             return Err(Failure::error(NO_INPUT, text));
+        }
+        let place = fs::canonicalize(folder).map_err(|e| cannot_open(folder, &e))?;
+        if out.starts_with(&place) {
+            let (out, folder) = (names::file(out), names::file(folder));
+            let text = format!("{out}: this is in {folder}, of which it is made; name a place elsewhere");
+            return Err(Failure::error(DATA, text));
         }
         let mut files = Files { from: folder.to_path_buf(), ..Files::default() };
         files.walk(folder, b"")?;
@@ -83,6 +90,10 @@ impl Files {
             let name =
                 names::read(entry.file_name().as_bytes()).map_err(|why| wrong(DATA, &why))?;
             let told = fs::symlink_metadata(&path).map_err(|e| cannot_open(&path, &e))?;
+            if is_unfinished(&name) {
+                let why = "a name that a new image has until it is finished; take it away";
+                return Err(wrong(DATA, why));
+            }
             let inside = [inside, &name].concat();
             if told.is_dir() {
                 self.walk(&path, &[&inside[..], b"/"].concat())?;
@@ -125,6 +136,14 @@ impl Files {
     pub fn paths(&self) -> Vec<u8> {
         self.files.iter().flat_map(|file| [&file.path[..], b"\0"].concat()).collect()
     }
+}
+
+/// What `make` calls an image that is not finished.
+pub const UNFINISHED: &str = "counter-new.";
+
+fn is_unfinished(name: &[u8]) -> bool {
+    let number = name.strip_prefix(UNFINISHED.as_bytes());
+    number.is_some_and(|number| !number.is_empty() && number.iter().all(u8::is_ascii_digit))
 }
 
 /// A path, then a size: behind the first tab if there is one, else behind the last space.

@@ -501,6 +501,67 @@ fn what_is_there_stays() {
     assert!(temp.at("here.iso").is_file() && temp.at("there too.iso").is_file());
 }
 
+/// What is no place for a new image is told at once, in a dry run too.
+#[test]
+fn where_it_cannot_be_made() {
+    let temp = Temp::new();
+    let list = temp.write("wishes.txt", LIST);
+    temp.write("x.iso.counter-journal", b"");
+    let before = names(&temp.at(""));
+    let long = |len: usize| "x".repeat(len);
+    let cases = [
+        ("x.iso", 73, "x.iso.counter-journal"),
+        ("x.iso/", 64, "no name of a file"),
+        ("new.iso/.", 64, "no name of a file"),
+        ("", 64, "no name of a file"),
+        (".", 64, "no name of a file"),
+        ("..", 64, "no name of a file"),
+        ("nowhere/new.iso", 73, "no such file"),
+        ("wishes.txt/new.iso", 73, "wishes.txt/new.iso: "),
+        (&long(256), 73, "too long"),
+        (&long(255), 73, "counter-journal: "),
+        (&long(240), 73, "counter-journal: "),
+    ];
+    for (out, status, words) in cases {
+        for more in [&[][..], &["--dry-run"]] {
+            let line = ["new", out, "--size=1M", "--code=GCTE", "--from", list.to_str().unwrap()];
+            let mut command = program();
+            command.args(line).args(more).current_dir(temp.at(""));
+            let run: Run = command.output().unwrap().into();
+            assert_eq!(run.status, status, "{out}: {}{}", run.out, run.err);
+            assert!(run.err.contains(words), "{out}: {}", run.err);
+            assert_eq!(names(&temp.at("")), before, "{out}");
+        }
+    }
+}
+
+/// Neither the new image nor what a cut left of one is a file of the next.
+#[test]
+fn a_folder_that_holds_a_new_image() {
+    let temp = Temp::new();
+    let folder = tree(&temp);
+    symlink("files/text", temp.at("way")).unwrap();
+    for out in ["files/new.iso", "files/text/de/new.iso", "way/new.iso"] {
+        let run = new(&temp.at(out), "2M", "--from-dir", &folder, &[]);
+        assert_eq!(run.status, 65, "{out}: {}", run.err);
+        assert!(run.err.contains("/files, of which it is made"), "{}", run.err);
+    }
+    let out = temp.at("new.iso");
+    for name in ["counter-new.", "counter-new.1x", "counter-new.17"] {
+        let left = folder.join("text").join(name);
+        fs::write(&left, b"").unwrap();
+        let run = new(&out, "2M", "--from-dir", &folder, &["--dry-run"]);
+        match name {
+            "counter-new.17" => {
+                assert_eq!(run.status, 65, "{}", run.err);
+                assert!(run.err.contains("/files/text/counter-new.17: a name"), "{}", run.err);
+            }
+            _ => assert_eq!(run.status, 0, "{}", run.err),
+        }
+        fs::remove_file(left).unwrap();
+    }
+}
+
 #[test]
 fn wrong_usage() {
     let temp = Temp::new();
