@@ -13,7 +13,7 @@ use crate::names::{self, shown};
 use crate::os::{self, Access, Mapping};
 use crate::out::say;
 use crate::progress::Progress;
-use crate::recover::finish;
+use crate::recover::finish_as;
 use crate::room;
 use crate::save::vacant;
 use crate::signals;
@@ -52,6 +52,7 @@ pub fn new(args: &Args) -> Outcome<()> {
     let out = args.image.as_deref().ok_or_else(usage)?;
     let (size, code) = args.size.zip(args.code.as_deref()).ok_or_else(usage)?;
     let (code, filled) = (game_code(code)?, args.folder.is_some());
+    signals::begin_making();
     let place = resolved(out)?;
     // A journal by that name would be taken for one of the new image.
     for path in [&place, &journal::beside(&place), &journal::clip_beside(&place)] {
@@ -82,7 +83,7 @@ pub fn new(args: &Args) -> Outcome<()> {
     drop(image);
     write(&wish, &disc, &mut desk, &front)?;
     let last: &[u8] = if args.json { b"" } else { b"done: written and synced\n" };
-    finish(&[&text, last].concat())
+    finish_as(&[&text, last].concat(), "meanwhile", "the new image is made and synced")
 }
 
 fn game_code(code: &OsStr) -> Outcome<[u8; 4]> {
@@ -219,6 +220,7 @@ fn told(args: &Args, wish: &Wish, disc: &Disc) -> Json {
 /// Makes the file under another name in the same folder, and gives it its own when it is on the disk. Whatever
 /// goes wrong, nothing of it is left.
 fn write(wish: &Wish, disc: &Disc, desk: &mut Desk, front: &[u8]) -> Outcome<()> {
+    signals::let_others_wait();
     let (early, file) = begin(&wish.place).map_err(|e| not_made(wish.out, &e))?;
     let done = fill_in(wish, disc, desk, front, &early, file).and_then(|()| {
         // From here on it is only a moment.
@@ -232,7 +234,7 @@ fn write(wish: &Wish, disc: &Disc, desk: &mut Desk, front: &[u8]) -> Outcome<()>
     done
 }
 
-/// A new file in the folder of `out`, which a signal takes away. One that SIGKILL or a power cut left has its
+/// A new file in the folder of `out`, which a signal that people send takes away. One that SIGKILL or a power cut left has its
 /// name for good.
 fn begin(out: &Path) -> io::Result<(PathBuf, File)> {
     let mut number = process::id();

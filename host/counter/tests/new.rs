@@ -672,7 +672,8 @@ fn a_run_that_is_cut_leaves_nothing() {
             SIGBUS => assert_eq!(run.status, 74, "{}", run.err),
             _ => assert_eq!(run.signal, Some(number), "{}", run.err),
         }
-        assert!(!run.err.is_empty() && run.out.is_empty(), "{number}");
+        let words = if number == SIGBUS { "of the new image" } else { "; nothing was made" };
+        assert!(run.err.contains(words) && run.out.is_empty(), "{number}: {}", run.err);
         assert_eq!(names(&temp.at("")), ["log", "wishes.txt"], "{number}");
     }
     // Nobody can tidy up after SIGKILL; but there is no OUT.
@@ -695,6 +696,32 @@ fn go_on(child: Child, mut log: File) -> Run {
     let run = child.wait_with_output().unwrap().into();
     reader.join().unwrap();
     run
+}
+
+/// Those that nobody answers wait until the new image is there; SIGUSR1 to SIGPWR, and the first of real time.
+#[test]
+fn other_signals_wait() {
+    for number in [10, 12, 14, 24, 26, 27, 29, 30, 34] {
+        let temp = Temp::new();
+        let (child, log) = waiting(&temp, "--from", &many(&temp));
+        send(&child, number);
+        let run = go_on(child, log);
+        assert_eq!(run.signal, Some(number), "{}", run.err);
+        let words = format!("signal {number} came meanwhile; the new image is made and synced");
+        assert!(run.err.contains(&words), "{}", run.err);
+        assert!(run.out.ends_with("done: written and synced\n"), "{number}");
+        assert_eq!(names(&temp.at("")), ["log", "new.iso", "wishes.txt"], "{number}");
+    }
+    // Nor is there an edit where the answer cannot be printed.
+    let temp = Temp::new();
+    let mut command = program();
+    command.arg("new").arg(temp.at("new.iso")).args(["--size", "1M", "--code", "GCTE", "--from"]);
+    command.arg(temp.write("wishes.txt", LIST)).stderr(Stdio::piped());
+    command.stdout(File::options().write(true).open("/dev/full").unwrap());
+    let run: Run = command.spawn().unwrap().wait_with_output().unwrap().into();
+    assert_eq!(run.status, 76, "{}", run.err);
+    assert!(run.err.contains("the new image is made and synced, but its answer"), "{}", run.err);
+    assert!(temp.at("new.iso").is_file());
 }
 
 #[test]
