@@ -19,7 +19,7 @@ use crate::save::vacant;
 use crate::signals;
 use crate::text::{counted, grouped, human};
 use crate::told::{dry, of_new};
-use crate::wanted::{Files, Source, UNFINISHED, Wanted};
+use crate::wanted::{Files, Source, Trouble, UNFINISHED, Wanted};
 use counter_sys::{self as counter, HEADER_SIZE, MOST_TABLE};
 use std::ffi::OsStr;
 use std::fs::{self, File};
@@ -128,7 +128,8 @@ fn made(wish: &Wish, desk: &mut Desk) -> Outcome<Image> {
 fn refused(wish: &Wish, number: u32) -> Failure {
     let failure = Failure::refused(number, format!("new {}", names::file(wish.out)));
     match wish.files.trouble(number) {
-        Some(why) => failure.because(why),
+        Some(Trouble { why, least: Some(least) }) => failure.because(why).at_least(least),
+        Some(Trouble { why, least: None }) => failure.because(why),
         None => failure,
     }
 }
@@ -154,7 +155,9 @@ fn notes(wish: &Wish, disc: &Disc, spell: fn(&[u8]) -> Vec<u8>) -> Vec<Vec<u8>> 
         format!("{} holds no file: the new master does not have it", names::file(folder)).into()
     });
     let new: Vec<&Node> = disc.nodes.iter().skip(1).collect();
-    left_out.chain(of_new(&new, disc, spell)).collect()
+    let empty = wish.files.files.is_empty();
+    let empty = empty.then(|| b"there are no files: the master has an empty table".to_vec());
+    left_out.chain(empty).chain(of_new(&new, disc, spell)).collect()
 }
 
 fn words(wish: &Wish, disc: &Disc) -> Vec<u8> {

@@ -101,7 +101,7 @@ fn a_list_makes_a_master() {
     let run = new(&temp.at("small.iso"), "0x28000", "--from", &list, &[]);
     assert_eq!(run.status, 21);
     assert!(run.err.contains("refused 21: no space ("), "{}", run.err);
-    assert!(run.err.contains("take 163,841 bytes"), "{}", run.err);
+    assert!(run.err.contains("(--size has to be at least 163,841: header, table and files"), "{}", run.err);
     assert!(!temp.at("small.iso").exists());
 }
 
@@ -142,7 +142,8 @@ fn the_answer_as_json() {
     let run = new(&out, "0x28001", "--from", &list, &["--json"]);
     assert_eq!((run.status, Json::read(&run.out).at("status").number()), (73, 73));
     let run = new(&temp.at("x"), "0x28000", "--from", &list, &["--json"]);
-    assert_eq!((run.status, Json::read(&run.out).at("refused").number()), (21, 21));
+    let told = Json::read(&run.out);
+    assert_eq!((run.status, told.at("refused").number(), told.at("least").number()), (21, 21, 0x2_8001));
 }
 
 fn run_help() -> String {
@@ -184,8 +185,9 @@ fn lines_in_every_form() {
     assert_eq!(one(b""), []);
     assert_eq!(one(b"\n\r\n\n"), []);
     assert_eq!(one(b"a 12"), file("/a", 12));
-    assert_eq!(one(b"\xEF\xBB\xBF/a \t 0x12\t \r\n"), file("/a ", 0x12));
-    assert_eq!(one(b" a 1K\n"), file("/ a", 1024));
+    assert_eq!(one(b"\xEF\xBB\xBF/a \t 0x12\t \r\n"), file("/a", 0x12));
+    assert_eq!(one(b" a 1K\n \t b\t2\n"), [("/a".into(), 1024), ("/b".into(), 2)]);
+    assert_eq!(one(b"/ a 1\n"), file("/ a", 1));
     assert_eq!(one(b"a  b   c 1\n"), file("/a  b   c", 1));
     assert_eq!(one(b"a 7\t1\n"), file("/a 7", 1));
     assert_eq!(one(b"1 1\n"), file("/1", 1));
@@ -209,6 +211,15 @@ fn lines_in_every_form() {
         assert!(run.err.contains(words), "{list:?}: {}", run.err);
     }
     assert_eq!(new(&out, "4M", "--from", &temp.at("nothing"), &[]).status, 66);
+    let run = new(&out, "4M", "--from", &temp.at(""), &[]);
+    assert_eq!(run.status, 66);
+    assert!(run.err.contains("a folder; --from-dir takes one"), "{}", run.err);
+    // So many lines, and an end of the last one, are no line too many.
+    let most = "\n".repeat(99_999);
+    assert_eq!(one((most.clone() + "a 1\n").as_bytes()), file("/a", 1));
+    let run = made((most + "a 1\n\n").as_bytes(), &[]).err().unwrap();
+    assert_eq!(run.status, 65);
+    assert!(run.err.contains("no list has more than 100,000 lines"), "{}", run.err);
 }
 
 /// The status is the number; the line, and what is wrong with it, are told; nothing is made.
@@ -245,7 +256,7 @@ fn what_the_library_refuses() {
             21,
             &["take 8,589,967,359 bytes, and no disc is that large"],
         ),
-        ("a 1\nb 0x8000\nc 0x800000\n", 21, &["take 8,454,145 bytes"]),
+        ("a 1\nb 0x8000\nc 0x800000\n", 21, &["at least 8,454,145: "]),
     ];
     for (text, number, words) in cases {
         let list = temp.write("wishes.txt", text.as_bytes());
@@ -294,6 +305,42 @@ fn as_many_and_as_long_as_a_table_takes() {
     let more = [long(1023), vec![format!("{} 0\n", "a".repeat(1024))]].concat();
     limit(more, Err("the table would have 1,048,577 bytes of names, and 1,048,576 are the most"));
     limit(vec!["d/".repeat(64) + "x 0\n"], Ok(()));
+}
+
+/// The least size that is told is taken, and a byte less is not.
+#[test]
+fn the_least_size_is_exact() {
+    let temp = Temp::new();
+    let mut random = 0x2545_F491_4F6C_DD1D_u64;
+    let mut below = |most: u64| {
+        random ^= random << 13;
+        random ^= random >> 7;
+        random ^= random << 17;
+        random % most
+    };
+    for round in 0..60 {
+        let lines = (0..below(12)).map(|k| {
+            let folders = "d/".repeat(below(3) as usize);
+            let size = match below(4) {
+                0 => 0,
+                1 => below(4) * 0x8000,
+                2 => below(0x8000),
+                _ => below(0x5_0000),
+            };
+            format!("{folders}{}{k} {size}\n", "x".repeat(below(200) as usize))
+        });
+        let list = temp.write("wishes.txt", lines.collect::<String>().as_bytes());
+        let made = |size: u64| {
+            let more = ["--dry-run", "--json"];
+            let run = new(&temp.at("new.iso"), &size.to_string(), "--from", &list, &more);
+            (run.status, Json::read(&run.out))
+        };
+        let (status, told) = made(0);
+        assert_eq!(status, 21, "{round}");
+        let least = told.at("least").number() as u64;
+        assert_eq!(made(least).0, 0, "{round}: {least}");
+        assert_eq!(made(least - 1).0, 21, "{round}: {least}");
+    }
 }
 
 #[test]
@@ -414,6 +461,16 @@ fn folders_that_hold_no_file_are_told() {
     assert_eq!(new(&out, "0x44b", "--from-dir", &nothing, &[]).status, 21);
     assert_eq!(new(&out, "0x44c", "--from-dir", &nothing, &[]).status, 0);
     assert!(fs::read(&out).unwrap() == master(0x44C, &[], &[]));
+    // That is told.
+    let words = "there are no files: the master has an empty table";
+    let list = temp.write("wishes.txt", b"\n");
+    for (from, source) in [("--from", &list), ("--from-dir", &nothing)] {
+        let out = temp.at("none.iso");
+        let run = new(&out, "1M", from, source, &["--dry-run"]);
+        assert!(run.out.contains(&format!("\ndry run: note: {words}\n")), "{}", run.out);
+        let run = new(&out, "1M", from, source, &["--dry-run", "--json"]);
+        assert_eq!(Json::read(&run.out).at("notes").list()[0].text(), words);
+    }
 }
 
 #[test]
@@ -449,9 +506,9 @@ fn what_in_a_folder_is_no_plain_file() {
     fs::remove_file(folder.join("〜")).unwrap();
     let large = File::create(folder.join("large")).unwrap();
     large.set_len(1 << 32).unwrap();
-    fails(21, "it has 4,294,967,296 bytes, and a file of an image at most 4,294,967,295");
+    fails(65, "it has 4,294,967,296 bytes, and a file of an image at most 4,294,967,295");
     large.set_len(0x20_0000).unwrap();
-    fails(21, "take 2,457,601 bytes");
+    fails(21, "at least 2,457,601: ");
     for source in ["files/opening.bnr", "nowhere"] {
         assert_eq!(new(&out, "2M", "--from-dir", &temp.at(source), &[]).status, 66);
     }
