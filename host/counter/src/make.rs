@@ -42,15 +42,20 @@ struct Wish<'a> {
 }
 
 impl Wish<'_> {
+    fn code(&self) -> String {
+        String::from_utf8_lossy(&self.code).into_owned()
+    }
+
     fn lengths(&self) -> impl Iterator<Item = u64> {
         self.files.files.iter().map(|file| file.size.into())
     }
 }
 
 pub fn new(args: &Args) -> Outcome<()> {
-    let usage = || Failure::usage(format!("usage: {}", args.form.usage()));
-    let out = args.image.as_deref().ok_or_else(usage)?;
-    let (size, code) = args.size.zip(args.code.as_deref()).ok_or_else(usage)?;
+    let usage = |why: &str| Failure::usage(format!("{why}; usage: {}", args.form.usage()));
+    let out = args.image.as_deref().ok_or_else(|| usage("OUT is missing"))?;
+    let size = args.size.ok_or_else(|| usage("--size SIZE is missing"))?;
+    let code = args.code.as_deref().ok_or_else(|| usage("--code GAME is missing"))?;
     let (code, filled) = (game_code(code)?, args.folder.is_some());
     signals::begin_making();
     let place = resolved(out)?;
@@ -61,12 +66,14 @@ pub fn new(args: &Args) -> Outcome<()> {
     let files = match (&args.from, &args.folder) {
         (Some(list), None) => Files::listed(list)?,
         (None, Some(folder)) => Files::found(folder, &place)?,
-        _ => return Err(usage()),
+        (None, None) => return Err(usage("--from LIST or --from-dir DIR is missing")),
+        _ => return Err(usage("--from and --from-dir: one of them is wanted")),
     };
     let wish = Wish { out, place, size, code, files, filled };
     let mut desk = Desk::new();
     let image = made(&wish, &mut desk)?;
     let disc = Disc::read(&image, &mut desk)?.with_paths()?;
+    are_wanted(&wish, &disc)?;
     if filled {
         try_to_fill(&wish)?;
     }
@@ -96,7 +103,8 @@ fn game_code(code: &OsStr) -> Outcome<[u8; 4]> {
 /// The place of OUT, whatever leads to its folder; names may be made there.
 fn resolved(out: &Path) -> Outcome<PathBuf> {
     let bytes = out.as_os_str().as_bytes();
-    let (folder, name) = bytes.split_at(bytes.iter().rposition(|&b| b == b'/').map_or(0, |at| at + 1));
+    let (folder, name) =
+        bytes.split_at(bytes.iter().rposition(|&b| b == b'/').map_or(0, |at| at + 1));
     if matches!(name, b"" | b"." | b"..") {
         return Err(Failure::usage(format!("\"{}\": this is no name of a file", names::file(out))));
     }
@@ -123,6 +131,16 @@ fn made(wish: &Wish, desk: &mut Desk) -> Outcome<Image> {
     counter::master(bytes, &mut desk.lend(), &wish.code, wish.size, &sizes, &paths)
         .map_err(|number| refused(wish, number))?;
     Ok(image)
+}
+
+/// The table has the files in the order in which the library was given them, and no others.
+fn are_wanted(wish: &Wish, disc: &Disc) -> Outcome<()> {
+    let has = files(disc).map(|(node, _, size)| (&node.path[1..], size));
+    let wanted = wish.files.files.iter().map(|file| (&file.path[..], file.size));
+    match has.eq(wanted) {
+        true => Ok(()),
+        false => Err(Failure::error(INTERNAL, "the files of libcounter are not those wanted")),
+    }
 }
 
 fn refused(wish: &Wish, number: u32) -> Failure {
@@ -166,7 +184,7 @@ fn words(wish: &Wish, disc: &Disc) -> Vec<u8> {
         "made {}: {} bytes, game code {}, {}, {}\n",
         names::file(wish.out),
         grouped(wish.size.into()),
-        String::from_utf8_lossy(&wish.code),
+        wish.code(),
         counted(count, "file", "files"),
         counted(disc.nodes.len() - 1 - count, "folder", "folders"),
     )
@@ -207,7 +225,7 @@ fn told(args: &Args, wish: &Wish, disc: &Disc) -> Json {
         ("dry_run", args.dry.into()),
         ("written", (!args.dry).into()),
         ("size", wish.size.into()),
-        ("game_code", String::from_utf8_lossy(&wish.code).into_owned().into()),
+        ("game_code", wish.code().into()),
         ("fst_size", disc.opened.fst_size.into()),
         ("used", used.into()),
         ("free", free.into()),
@@ -288,11 +306,6 @@ fn fill_in(
     let mut record =
         counter::make_record(image.bytes(), &mut desk.lend()).map_err(|n| not_opened(&image, n))?;
     for ((node, ..), wanted) in files(disc).zip(&wish.files.files) {
-        // The table has the files in the order in which the library was given them.
-        if node.path[1..] != wanted.path {
-            let text = format!("{}: libcounter told another file", names::text(&node.path));
-            return Err(Failure::error(INTERNAL, text));
-        }
         let Source::File(path) = &wanted.source else { continue };
         let clip = contents(path, wanted)?;
         counter::fill_file(

@@ -8,9 +8,7 @@ use crate::lines::{self, MOST_LINES};
 use crate::names;
 use crate::text::{grouped, number};
 use crate::units;
-use counter_sys::{
-    self as counter, HEADER_SIZE, MOST_ENTRIES, MOST_LEVELS, MOST_PATH, MOST_TEXT,
-};
+use counter_sys::{self as counter, HEADER_SIZE, MOST_ENTRIES, MOST_LEVELS, MOST_PATH, MOST_TEXT};
 use std::collections::HashMap;
 use std::fs::{self, DirEntry};
 use std::io;
@@ -63,7 +61,8 @@ impl Files {
         let place = fs::canonicalize(folder).map_err(|e| cannot_open(folder, &e))?;
         if out.starts_with(&place) {
             let (out, folder) = (names::file(out), names::file(folder));
-            let text = format!("{out}: this is in {folder}, of which it is made; name a place elsewhere");
+            let text =
+                format!("{out}: this is in {folder}, of which it is made; name a place elsewhere");
             return Err(Failure::error(DATA, text));
         }
         let mut files = Files { from: folder.to_path_buf(), ..Files::default() };

@@ -101,7 +101,11 @@ fn a_list_makes_a_master() {
     let run = new(&temp.at("small.iso"), "0x28000", "--from", &list, &[]);
     assert_eq!(run.status, 21);
     assert!(run.err.contains("refused 21: no space ("), "{}", run.err);
-    assert!(run.err.contains("(--size has to be at least 163,841: header, table and files"), "{}", run.err);
+    assert!(
+        run.err.contains("(--size has to be at least 163,841: header, table and files"),
+        "{}",
+        run.err
+    );
     assert!(!temp.at("small.iso").exists());
 }
 
@@ -143,7 +147,10 @@ fn the_answer_as_json() {
     assert_eq!((run.status, Json::read(&run.out).at("status").number()), (73, 73));
     let run = new(&temp.at("x"), "0x28000", "--from", &list, &["--json"]);
     let told = Json::read(&run.out);
-    assert_eq!((run.status, told.at("refused").number(), told.at("least").number()), (21, 21, 0x2_8001));
+    assert_eq!(
+        (run.status, told.at("refused").number(), told.at("least").number()),
+        (21, 21, 0x2_8001)
+    );
 }
 
 fn run_help() -> String {
@@ -436,6 +443,22 @@ fn a_folder_comes_back_byte_for_byte() {
     assert_ne!(new(&temp.at("wrong.iso"), "2M", "--from-dir", &raw, &[]).status, 0);
 }
 
+/// The line of help that writes a LIST of a disc does.
+#[test]
+fn the_list_of_a_disc() {
+    let temp = Temp::new();
+    let (folder, out, again) = (tree(&temp), temp.at("new.iso"), temp.at("again.iso"));
+    assert_eq!(new(&out, "2M", "--from-dir", &folder, &[]).status, 0);
+    let help = run_help().split_whitespace().collect::<Vec<_>>().join(" ");
+    let line = help.split('`').find(|part| part.starts_with("counter list disc.iso |")).unwrap();
+    let behind = line.split_once('|').unwrap().1;
+    let line = format!("{} list {} |{behind}", env!("CARGO_BIN_EXE_counter"), out.display());
+    let list = Command::new("bash").args(["-c", &line]).output().unwrap().stdout;
+    let list = temp.write("wishes.txt", &list);
+    assert_eq!(new(&again, "2M", "--from", &list, &["--bytes"]).status, 0);
+    assert_eq!(Table::of(&again), Table::of(&out));
+}
+
 #[test]
 fn folders_that_hold_no_file_are_told() {
     let temp = Temp::new();
@@ -646,6 +669,15 @@ fn wrong_usage() {
         assert!(!out.exists());
     }
     assert_eq!(run(&["new"]).status, 64);
+    // What is missing is told.
+    for (rest, words) in [
+        (&["--code", "GCTE", "--from", list][..], "--size SIZE is missing"),
+        (&["--size", "1M", "--from", list], "--code GAME is missing"),
+        (&["--size", "1M", "--code", "GCTE"], "--from LIST or --from-dir DIR is missing"),
+    ] {
+        let run = on("new", &out, rest);
+        assert!(run.err.contains(words), "{}", run.err);
+    }
 }
 
 // When it is cut --------------------------------------------------------------------------
