@@ -300,7 +300,7 @@ fn json(forms: &[Form]) -> String {
             "  clip{name size}: of a fill; entries has the file that was filled in any case\n",
         );
     }
-    out.push_str("  A refusal: status refused cause about detail; 26 also table{before after maximum above}, and 21\n  of `new` least, the least --size. Another error: status error.\n");
+    out.push_str("  A refusal: status refused cause about detail; 26 also table{before after maximum above}, and 21 of\n  `new` least, which is the least --size. Another error: status error.\n");
     out
 }
 

@@ -59,9 +59,11 @@ pub fn new(args: &Args) -> Outcome<()> {
     let (code, filled) = (game_code(code)?, args.folder.is_some());
     signals::begin_making();
     let place = resolved(out)?;
-    // A journal by that name would be taken for one of the new image.
-    for path in [&place, &journal::beside(&place), &journal::clip_beside(&place)] {
-        may_be_made(path)?;
+    // A journal by that name would be taken for one of the new image; and no edit could make one whose name is
+    // too long.
+    let beside = [journal::beside, journal::early_beside, journal::clip_beside];
+    for path in [place.clone()].into_iter().chain(beside.map(|beside| beside(&place))) {
+        may_be_made(&path)?;
     }
     let files = match (&args.from, &args.folder) {
         (Some(list), None) => Files::listed(list)?,

@@ -560,13 +560,18 @@ fn what_is_there_stays() {
     assert_eq!(fs::read(&file).unwrap(), b"mine");
     assert_eq!(names(&temp.at("")), before);
     // A journal, or a clip, that would be taken for one of the new image's.
-    for end in ["iso.counter-journal", "iso.counter-clip"] {
+    for end in ["iso.counter-journal", "iso.counter-journal.new", "iso.counter-clip"] {
         let left = temp.write(&format!("new.{end}"), b"");
         let run = new(&temp.at("new.iso"), "1M", "--from", &list, &[]);
         assert_eq!(run.status, 73, "{}", run.err);
         assert!(run.err.contains(end), "{}", run.err);
         fs::remove_file(left).unwrap();
     }
+    // The longest name that an edit has a journal for.
+    let out = temp.at(&"x".repeat(235));
+    assert_eq!(new(&out, "1M", "--from", &list, &[]).status, 0);
+    done("mkdir", &out, &["fr"]);
+    fs::remove_file(out).unwrap();
     // Where it cannot be made, and a name that has another use.
     assert_eq!(new(&temp.at("nowhere/new.iso"), "1M", "--from", &list, &[]).status, 73);
     assert_eq!(new(&temp.at("x.iso.counter-journal"), "1M", "--from", &list, &[]).status, 64);
@@ -601,6 +606,7 @@ fn where_it_cannot_be_made() {
         (&long(256), 73, "too long"),
         (&long(255), 73, "counter-journal: "),
         (&long(240), 73, "counter-journal: "),
+        (&long(236), 73, "counter-journal.new: "),
     ];
     for (out, status, words) in cases {
         for more in [&[][..], &["--dry-run"]] {
