@@ -5,7 +5,8 @@ mod support;
 use std::fs::{self, File};
 use std::io::Read;
 use std::os::unix::ffi::OsStrExt;
-use std::os::unix::fs::{OpenOptionsExt, symlink};
+use std::os::unix::fs::{OpenOptionsExt, PermissionsExt, symlink};
+use std::os::unix::process::CommandExt;
 use std::path::{Path, PathBuf};
 use std::process::{Child, Command, Stdio};
 use std::thread;
@@ -618,6 +619,51 @@ fn where_it_cannot_be_made() {
             assert!(run.err.contains(words), "{out}: {}", run.err);
             assert_eq!(names(&temp.at("")), before, "{out}");
         }
+    }
+}
+
+const NOBODY: u32 = 65534;
+
+unsafe extern "C" {
+    fn geteuid() -> u32;
+}
+
+/// A folder that may not be written to, and a file that may not be read, are told before anything is written. Whoever
+/// may do everything tries it as another user.
+#[test]
+fn what_is_not_allowed() {
+    let temp = Temp::new();
+    let list = temp.write("wishes.txt", LIST);
+    let files = temp.at("files");
+    fs::create_dir(&files).unwrap();
+    let secret = temp.write("files/secret", b"mine");
+    let counter = temp.at("counter");
+    fs::copy(env!("CARGO_BIN_EXE_counter"), &counter).unwrap();
+    let mode = |path: &Path, mode| {
+        fs::set_permissions(path, fs::Permissions::from_mode(mode)).unwrap();
+    };
+    mode(&counter, 0o755);
+    mode(&secret, 0o000);
+    for (folder, from, source, status) in [
+        (0o777, "--from", &list, 0),
+        (0o555, "--from", &list, 73),
+        (0o777, "--from-dir", &files, 77),
+    ] {
+        mode(&temp.at(""), folder);
+        for more in [&["--dry-run"][..], &[]] {
+            let mut command = Command::new(&counter);
+            if unsafe { geteuid() } == 0 {
+                command.uid(NOBODY);
+            }
+            command.arg("new").arg(temp.at("new.iso")).args(["--size", "1M", "--code", "GCTE"]);
+            let run: Run = command.arg(from).arg(source).args(more).output().unwrap().into();
+            assert_eq!(run.status, status, "{}", run.err);
+            assert_eq!(run.err.contains("permission denied"), status != 0, "{}", run.err);
+        }
+        if status == 0 {
+            fs::remove_file(temp.at("new.iso")).unwrap();
+        }
+        assert_eq!(names(&temp.at("")), ["counter", "files", "wishes.txt"]);
     }
 }
 
