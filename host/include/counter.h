@@ -317,9 +317,9 @@ uint32_t counter_rewrite(uint8_t *image, size_t image_len, uint32_t *words, size
  *
  * paths are the full paths of the files, from the root, without a '/' in front, each ended by a zero byte; sizes[k] is the size of file k.
  * They are cut at '/' alone, and rise in the order of their bytes, unsigned. The table has the files in this order, each directory just
- * before the first file in it, and no other directory. A file that is not empty begins on a multiple of COUNTER_CLUSTER_SIZE: the first of
- * those with the largest unused rest of its last cluster lies last, the others in this order from the first multiple at or behind the
- * table's end. An empty file has offset 0.
+ * before the first file in it, and no other directory. A file that is not empty begins on a multiple of COUNTER_CLUSTER_SIZE, in this order
+ * from the first multiple at or behind the table's end; but the first file with the largest unused rest of its last cluster, which is 0 of
+ * an empty file, lies last. An empty file has offset 0.
  *
  * 8 if not exactly one path is ended for each size, or bytes are left behind the last. Then path by path: over COUNTER_MOST_PATH bytes 9; a
  * part that is empty or unsafe 13; a part with a byte that no name has 12; not behind the path before it, or an earlier file used as a
