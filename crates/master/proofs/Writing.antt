@@ -7,6 +7,7 @@ use Rattle.std.proofs.Math.Seq.{take-append_seam}
 use borrow.Rule.Slice.PartMut.{put_mid}
 use Rattle.endian.specs.Bytes.{put}
 use Rattle.refusal.specs.declared.Refusal.{Refusal}
+use Rattle.header.specs.declared.value.DiscHeader.{DiscHeader}
 use Rattle.header.specs.Header.{put_header}
 use Rattle.tree.specs.Table.{encode}
 use Rattle.wish_list.specs.Paths.{paths_in}
@@ -58,6 +59,10 @@ table-sized m = encode-length-placed (paths_in m.paths) m.sizes (offsets_of (fir
 pub in-parts : (m : Master) (image : List ℕ) → put (put_header (header_of_master m) (put image 0 (replicate m.disc_end 0))) 0x440 (encode (nodes_at m (offsets_of (first_free m) m.sizes))) ≡ written_master m image
 unfolding written_master nodes_of_master
 in-parts m image = refl
+
+-- zeros up to the disc end
+pub filled-to : (h : DiscHeader) (image : List ℕ) (n end : ℕ) → n ≡ end → put_header h (put image 0 (replicate n 0)) ≡ put_header h (put image 0 (replicate end 0))
+filled-to h image n end e = rw e
 
 -- ---- the image afterwards
 

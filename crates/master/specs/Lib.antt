@@ -1,4 +1,3 @@
 pub mod Master
 pub mod Asked
 pub mod Theorem
-pub mod Inner

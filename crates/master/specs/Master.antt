@@ -6,8 +6,8 @@ use Rattle.refusal.specs.Refusal.{Verdict, refuse, first}
 use Rattle.header.specs.declared.value.DiscHeader.{DiscHeader}
 use Rattle.header.specs.Header.{blank_header, put_header}
 use Rattle.tree.specs.Table.{Node, encode, limits}
-use Rattle.wish_list.specs.Paths.{paths_in, list_verdict}
-use Rattle.wish_list.specs.Tree.{wishes, tree}
+use Rattle.wish_list.specs.Paths.{list_verdict}
+use Rattle.wish_list.specs.Tree.{tree_of}
 use Rattle.placement.specs.Placement.{is_placeable, offsets_of}
 
 -- what is wished for
@@ -20,7 +20,7 @@ pub record Master : Type 0 where
 
 -- the tree with the files at these offsets
 abbrev pub nodes_at : Master → List ℕ → List Node
-nodes_at m offsets = tree (wishes (paths_in m.paths) m.sizes offsets)
+nodes_at m offsets = tree_of m.paths m.sizes offsets
 
 -- the table has this size wherever the files lie
 abbrev pub table_size : Master → ℕ

@@ -9,7 +9,8 @@ use Rattle.refusal.specs.declared.Refusal.TheVariants.{NotEnoughSpace}
 use Rattle.tree.specs.Table.{Node, file, directory, name_of, empty_root, parent_of}
 use Rattle.tree.specs.Lookup.{is_directory, next_of, lookup}
 use Rattle.opened.specs.Opening.{nodes_in, opening}
-use Rattle.header.specs.Verdicts.{disc_end}
+use Rattle.header.specs.Header.{header_of}
+use Rattle.header.specs.Verdicts.{disc_end, table_end}
 use Rattle.ledger.specs.Ledger.{first_ledger, ledger_after}
 use Rattle.ledger.specs.Runs.{Call, image_after_all, reports_of, AllWithin}
 use Rattle.ledger.specs.Theorem.{LedgerHolds}
@@ -17,7 +18,7 @@ use Rattle.listing.specs.Lines.{path_of}
 use Rattle.wish_list.specs.Paths.{paths_in}
 use Rattle.placement.specs.Placement.{offsets_of}
 use Rattle.placement.specs.Places.{IsPlaced}
-use Rattle.master.specs.Master.{Master, first_free, nodes_of_master, before_place, master_verdict, written_master}
+use Rattle.master.specs.Master.{Master, first_free, nodes_of_master, header_of_master, before_place, master_verdict, written_master}
 
 -- numbers of 32 bits, and bytes
 pub record IsPassable (m : Master) : Type 0 where
@@ -107,7 +108,10 @@ pub record IsOpenedAs (m : Master) (words : ℕ) (image new : List ℕ) : Type 0
   -- it opens with the words that were lent, and shows the tree of the wish list
   pub opens : opening new words ≡ Ok tt
   pub tree : nodes_in new ≡ nodes_of_master m
+  -- its header is the one that was wished for, and its table ends where the files may begin
+  pub header : header_of new ≡ header_of_master m
   pub end : disc_end new ≡ m.disc_end
+  pub table : table_end new ≡ first_free m
   -- the files lie apart, on clusters, behind the table
   pub placed : IsPlaced (first_free m) m.disc_end m.sizes (offsets_of (first_free m) m.sizes)
   -- every byte of a file is 0, and those behind the disc end are the buffer's

@@ -61,11 +61,10 @@ impl<'a> Master<'a> {
         let list = WishList::new(self.paths, self.sizes)?;
         let table = NewTable::measure(&list, words)?;
         let size = table.size();
-        let has_place = placement::is_placeable(HEADER_LEN + size, self.disc_end, self.sizes);
         if bytes < size || room < self.disc_end as usize {
             return Err(Refusal::LimitOrMemory);
         }
-        if !has_place {
+        if !placement::is_placeable(HEADER_LEN + size, self.disc_end, self.sizes) {
             return Err(Refusal::NotEnoughSpace);
         }
         Ok(table)
@@ -73,6 +72,7 @@ impl<'a> Master<'a> {
 }
 
 // Writes the image of a list that is granted. The offsets go into the words, a draft of the table into the bytes.
+// Kept: one by one: that the disc end fits 4 bytes the proof knows of a parameter, and not of a field (P).
 fn write_granted(
     image: &mut [u8],
     game_code: [u8; 4],

@@ -7,7 +7,7 @@ use Rattle.wish_list.specs.Paths.{paths_in}
 use Rattle.wish_list.specs.Tree.{wishes}
 use Rattle.wish_list.proofs.Laws.Below.{below-files, length-tree}
 use Rattle.wish_list.proofs.Laws.NameTexts.{length-wishes, wishes-named}
-use Rattle.new_table.specs.Trees.{tree_of}
+use Rattle.wish_list.specs.Tree.{tree_of}
 use Rattle.new_table.proofs.Lists.{ok-is}
 use Rattle.new_table.proofs.Limits.{tree-entries, tree-texts, tree-size, tree-depth}
 use Rattle.new_table.proofs.Going.{Fitting}

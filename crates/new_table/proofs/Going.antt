@@ -12,7 +12,7 @@ use Rattle.wish_list.specs.Tree.{Wish, wishes, common, added, below, entries_fro
 use Rattle.wish_list.proofs.Laws.Below.{common-less, below-in, below-out, length-entries_with, length-tree_from, length-tree}
 use Rattle.wish_list.proofs.Laws.NameTexts.{names_of-named, texts_of-entries_from, length-name_texts, name_texts_total, texts-tree_from}
 use Rattle.endian.specs.Bytes.{put}
-use Rattle.new_table.specs.Trees.{tree_of}
+use Rattle.wish_list.specs.Tree.{tree_of}
 use Rattle.new_table.specs.Inner.Cuts.{IsPathBefore}
 use Rattle.new_table.specs.Inner.Steps.{slashes, shared_bytes, own_part, entries_behind, texts_behind, is_shallow_path}
 use Rattle.new_table.specs.Inner.Drafts.{entries_put, path_entries, draft_bytes, HasRoom}

@@ -26,10 +26,11 @@ module _ (before path : List ℕ) (i n : ℕ) (s : Sharing before path i n) (in_
   same : get_or before i 0 ≡ get_or path i 0 → shared_bytes (drop i before) (drop i path) ≡ shared_from (get_or path i 0) (shared_bytes (drop (suc i) before) (drop (suc i) path))
   same e = rw (here, eq-eqb (get_or before i 0) (get_or path i 0) e) refl
 
-  pub sharing-slash : (i' : ℕ) → i' ≡ i + 1 → get_or before i 0 ≡ get_or path i 0 → get_or path i 0 ≡ 0x2F → Sharing before path i' i'
-  sharing-slash i' p e z =
+  pub sharing-slash : (i' n' : ℕ) → i' ≡ i + 1 → n' ≡ i + 1 → get_or before i 0 ≡ get_or path i 0 → get_or path i 0 ≡ 0x2F → Sharing before path i' n'
+  sharing-slash i' n' p q e z =
       let k : i' ≡ suc i = omega arith in
-      rw k (go (shared_bytes (drop (suc i) before) (drop (suc i) path)) refl)
+      let l : n' ≡ suc i = omega arith in
+      rw (k, l) (go (shared_bytes (drop (suc i) before) (drop (suc i) path)) refl)
     where
       one : is_slash (get_or path i 0) ≡ true
       one = eq-eqb (get_or path i 0) 0x2F z

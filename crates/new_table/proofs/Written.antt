@@ -9,7 +9,7 @@ use Rattle.table_writing.specs.Laws.Accepted.{accepted-valid}
 use Rattle.wish_list.specs.Paths.{paths_in, list_verdict}
 use Rattle.wish_list.proofs.Laws.NameTexts.{encode-length-placed, limits-placed}
 use Rattle.wish_list.proofs.Laws.AcceptedPaths.{AllWords, accepted-sound}
-use Rattle.new_table.specs.Trees.{tree_of}
+use Rattle.wish_list.specs.Tree.{tree_of}
 use Rattle.new_table.specs.Inner.Drafts.{draft_bytes}
 use Rattle.new_table.proofs.Lists.{ok-is}
 

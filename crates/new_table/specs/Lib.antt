@@ -1,2 +1,1 @@
-pub mod Trees
 pub mod Inner

@@ -12,6 +12,7 @@ use table_writing::{Kind, Record};
 use tree::FileEntry;
 
 /// The first entry that is written: its number, and where its name starts.
+// Kept: no derived equality, since nothing compares two (N).
 #[derive(Clone, Copy)]
 pub struct Place {
     pub entry: usize,
@@ -24,6 +25,7 @@ pub fn close(ends: &mut [u32], from: usize, to: usize, next: u32)
     ensures closed { (j : ℕ) → from ≤ j → j ≤ to → slice_index ends.new j ≡ next }
     ensures kept { (j : ℕ) → j < from → slice_index ends.new j ≡ slice_index ends.old j }
 {
+    // Kept: a range of numbers, which may be empty: a part of `ends` may not start behind its end (N).
     for n in from..to + 1 {
         ends[n] = next;
     }
@@ -48,8 +50,8 @@ impl Place {
         }
     }
 
-    /// Writes a file before it; the names start at `texts`.
-    pub fn write_file(self, bytes: &mut [u8], texts: usize, name: &[u8], entry: FileEntry) -> Place
+    // Writes a file before it; the names start at `texts`.
+    fn write_file(self, bytes: &mut [u8], texts: usize, name: &[u8], entry: FileEntry) -> Place
         requires { HasRoom bytes.old texts self.entry self.text 1 (length name.now + 1) }
         ensures entry { result.entry + 1 ≡ self.entry }
         ensures text { result.text + (length name.now + 1) ≡ self.text }
@@ -67,8 +69,8 @@ impl Place {
         place
     }
 
-    /// Writes a directory before it that ends before entry `next`.
-    pub fn write_directory(self, bytes: &mut [u8], texts: usize, name: &[u8], next: u32) -> Place
+    // Writes a directory before it that ends before entry `next`.
+    fn write_directory(self, bytes: &mut [u8], texts: usize, name: &[u8], next: u32) -> Place
         requires { HasRoom bytes.old texts self.entry self.text 1 (length name.now + 1) }
         ensures entry { result.entry + 1 ≡ self.entry }
         ensures text { result.text + (length name.now + 1) ≡ self.text }
@@ -111,6 +113,7 @@ impl Place {
         let mut n = path::slashes(path);
         let mut start = path::part_start(path, b'/', shared, path.len());
         let mut place = self.write_file(bytes, texts, &path[start..], entry);
+        // Kept: over places: each name is written at a place of its own, before the one behind it (N).
         while shared < start {
             let end = start - 1;
             start = path::part_start(path, b'/', shared, end);

@@ -4,7 +4,7 @@ ghost use Rattle.endian.specs.Bytes.{put};
 ghost use Rattle.tree.specs.Table.{encode, limits};
 ghost use Rattle.wish_list.specs.Paths.{list_verdict};
 ghost use Rattle.new_table.specs.Inner.Drafts.{draft_bytes};
-ghost use Rattle.new_table.specs.Trees.{tree_of};
+ghost use Rattle.wish_list.specs.Tree.{tree_of};
 
 use crate::draft::{self, Place};
 use crate::path;
@@ -15,6 +15,7 @@ use tree::{DEPTH_LIMIT, FileEntry};
 use wish_list::WishList;
 
 /// The file table of a wish list, measured: it is within the limits, wherever the files lie.
+// Kept: no derived equality, which would compare all paths (N).
 #[derive(Drop)]
 pub struct NewTable<'a> {
     /// The paths, each with its zero byte.
@@ -101,6 +102,7 @@ impl<'a> NewTable<'a> {
         let mut i = self.sizes.len();
         let mut end = self.paths.len();
         let mut path = path::path_before(self.paths, end);
+        // Kept: from the last path on, each known by where it ends (N).
         while i > 0 {
             i -= 1;
             end -= path.len() + 1;

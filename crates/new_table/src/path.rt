@@ -25,6 +25,7 @@ pub fn shared_bytes(before: &[u8], path: &[u8]) -> usize
     ensures within { result ≤ length path.now }
 {
     let mut shared = 0;
+    // Kept: over places: the answer is one (N).
     for i in 0..before.len().min(path.len()) {
         if before[i] != path[i] {
             return shared;
@@ -43,6 +44,7 @@ pub fn part_start(bytes: &[u8], b: u8, from: usize, end: usize) -> usize
     ensures { IsCut bytes.now b from result end }
 {
     let mut start = end;
+    // Kept: over places, as above.
     while from < start && bytes[start - 1] != b {
         start -= 1;
     }

@@ -8,6 +8,7 @@ use crate::path;
 use tree::{DEPTH_LIMIT, ENTRIES_LIMIT, TEXTS_LIMIT};
 
 /// The size of a table.
+// Kept: no derived equality, since nothing compares two (N).
 #[derive(Clone, Copy)]
 pub struct Size {
     /// How many entries it has, the root with them.
@@ -27,6 +28,7 @@ impl Size {
         let mut texts = 0;
         let mut before: &[u8] = &[];
         let mut at = 0;
+        // Kept: a turn goes on behind the path that it has cut (N).
         while at < paths.len() {
             let path = path::path_at(paths, at);
             if path::slashes(path) > DEPTH_LIMIT {

@@ -6,6 +6,7 @@ ghost use Rattle.placement.specs.Inner.Need.{IsNeedOf};
 use space::CLUSTER_SIZE;
 
 // What a pass over the sizes finds.
+// Kept: no derived equality, since nothing compares two (N).
 #[derive(Clone, Copy)]
 pub struct Need {
     // The bytes of all files, each in whole clusters.

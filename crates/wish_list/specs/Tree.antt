@@ -4,7 +4,7 @@ use Rattle.std.specs.Prelude.{ℕ, suc, ◌+◌, ◌-◌, List, [], ◌∷◌, �
 use mathlib.Core.List.{tail}
 use Rattle.endian.specs.Bytes.{are_same_bytes}
 use Rattle.tree.specs.Table.{Node, file, directory}
-use Rattle.wish_list.specs.Paths.{names_of}
+use Rattle.wish_list.specs.Paths.{paths_in, names_of}
 
 -- a file: the names of the directories around it and its own, and where its bytes lie
 pub record Wish : Type 0 where
@@ -54,3 +54,7 @@ tree_from k before (w ∷ ws) = entries_with k before w ws ++ tree_from (k + add
 -- the root, and the entries of all files
 unfoldable pub tree : List Wish → List Node
 tree ws = directory [] (suc (below 0 [] ws)) ∷ tree_from 1 [] ws
+
+-- of the paths in some bytes
+abbrev pub tree_of : List ℕ → List ℕ → List ℕ → List Node
+tree_of bytes sizes offsets = tree (wishes (paths_in bytes) sizes offsets)

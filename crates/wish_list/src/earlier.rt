@@ -28,6 +28,7 @@ fn clear(marks: &mut [bool], from: usize, to: usize)
 }
 
 /// The paths that came before, each behind the one before it: what has to be known of them for the next one.
+// Kept: no derived equality, since nothing compares two (N).
 #[derive(Drop)]
 pub struct Earlier<'a> {
     // The last path.

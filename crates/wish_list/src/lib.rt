@@ -1,8 +1,8 @@
-// The wish list of a new master: its paths judged, and the tree that they make.
+// The wish list of a new master: its paths judged. The tree that they make is in specs/Tree.antt.
 #![tactic(auto)]
 
 mod earlier;
 mod list;
-pub mod paths;
+mod paths;
 
 pub use list::WishList;

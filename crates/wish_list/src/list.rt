@@ -75,6 +75,7 @@ fn paths_verdict(paths: &[u8], count: usize) -> Verdict
 {
     let mut earlier = Earlier::new();
     let mut rest = paths;
+    // Kept: it counts turns, and no number is used (N).
     for _ in 0..count {
         let path = first_path(rest);
         add_path(&mut earlier, path)?;

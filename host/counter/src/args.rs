@@ -163,6 +163,12 @@ const DRY: Flag = Flag {
     value: None,
     words: "works on a private copy in memory, tells what would happen, touches nothing",
 };
+const DRY_NEW: Flag = Flag {
+    name: "--dry-run",
+    value: None,
+    words: "makes it in memory alone, tries what can be tried without a write (OUT's name and folder, the files of \
+            DIR, the room for them on the disk), and tells what would be made",
+};
 const RECORD: Flag = Flag {
     name: "--record",
     value: Some(("FILE", Value::New)),
@@ -191,7 +197,7 @@ const WITHOUT: Flag = Flag {
 const BYTES: Flag = Flag {
     name: "--bytes",
     value: None,
-    words: "names are the image's bytes, as they are: in PATH and LIST, on standard output, in a manifest and \
+    words: "names are the image's bytes, as they are: in PATH, LIST and DIR, on standard output, in a manifest and \
             in the names of extracted files; JSON stays as it is",
 };
 const PATHS: Flag = Flag {
@@ -497,7 +503,7 @@ pub const FORMS: &[Form] = &[
         name: "new",
         group: Group::Make,
         operands: &[&MASTER],
-        flags: &[&DISC_END, &CODE, &WANTED, &FOLDER, &DRY, &BYTES, &JSON],
+        flags: &[&DISC_END, &CODE, &WANTED, &FOLDER, &DRY_NEW, &BYTES, &JSON],
         words: "makes a master: a header, a table and files, each on a multiple of 0x8000, with nothing else on \
                 the disc",
         more: NEW_MASTER,
@@ -603,19 +609,25 @@ what the edit makes of it, and the journal stays (78).";
 
 const NEW_MASTER: &str = "\
 LIST is a text file in UTF-8 of at most 16 MiB and 100,000 lines. A line is a path, spaces or tabs, and a size, as \
-SIZE is written; the path may have spaces in it. Where a line has a tab, the first one ends the path. The path is cut \
-at / alone, and one / may stand before it; \\xHH is a byte as in PATH. Lines may be in any order.
+SIZE is written; the path may have spaces in it. Where a tab stands behind the path's beginning, the first one ends \
+it. Spaces and tabs around a path are no part of it: a name that begins with one is written with a / before it, and \
+one that ends with one only DIR can have. The path is cut at / alone, and one / may stand before it; \\xHH is a byte \
+as in PATH. Lines may be in any order; there are no comments. `counter list disc.iso | LC_ALL=C sed -nE \
+'s/^f [0-9]+ [0-9]+ ([0-9]+) (.*)/\\2 \\1/p'` writes the LIST of a disc for --bytes.
 The files of a LIST are zeros, to be filled later (`counter fill`). Those of DIR have its bytes, and `counter extract \
-OUT --all` gives them back. A link or a special file in DIR is an error (66). A folder that holds no file is left out, \
-which is told: a new master has no such folders.
+OUT --all` gives them back. Names go through Shift-JIS, and a few characters come back as their double; see `counter \
+help names`. A link or a special file in DIR is an error (66), a file of 4 GiB or more, a counter-new.N and an OUT in \
+DIR are others (65). A folder that holds no file is left out, which is told: a new master has no such folders.
 Refused is an unsafe or empty part of a path (13), a byte that no name has (12), a path twice, or one that is a file \
-and a folder too (19), a path or a table past a limit (9), and what has no place below SIZE (21). The line or the file \
-is told, and how large SIZE has to be at least.
+and a folder too (19), a path or a table past a limit (9), and what has no place below SIZE (21). The path that is \
+refused is told, and how large SIZE has to be at least.
 The table has the files in the order of their paths' bytes, and so they lie on the disc, but for one that comes last: \
-the one whose last 0x8000 bytes are used least.
+the one whose last block of 0x8000 bytes is used least, of equal ones the first.
 OUT is made as counter-new.N in its folder, and gets its name when all of it is on the disk; nothing that is there is \
-overwritten. If anything fails, or a signal comes, nothing is left; after SIGKILL or a power cut counter-new.N may be, \
-which is of no use. What is zero takes no room on the disk. There is no program (main.dol) on it.";
+overwritten. A refusal, an error, Ctrl-C, SIGHUP, SIGQUIT and SIGTERM leave nothing; every other signal but SIGKILL \
+waits until OUT is there. After SIGKILL or a power cut counter-new.N may be, which is of no use.
+Free space and the files of a LIST take no room on the disk; the files of DIR do, their zeros too. There is no program \
+(main.dol) on it, and no maker code: wit takes it for a disc only with two capitals or digits at offset 4.";
 
 // The arguments ---------------------------------------------------------------------------
 

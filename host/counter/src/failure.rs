@@ -29,8 +29,14 @@ const SIGPIPE: u8 = 13;
 #[derive(Debug)]
 pub enum Failure {
     /// The proved library said no. `what` is what it was asked about, `detail` more than the number,
-    /// `above` what 26 is about.
-    Refused { number: u32, what: String, detail: Option<String>, above: Option<Above> },
+    /// `above` what 26 is about, `least` how large a new master has to be.
+    Refused {
+        number: u32,
+        what: String,
+        detail: Option<String>,
+        above: Option<Above>,
+        least: Option<u64>,
+    },
     /// Anything else that went wrong.
     Error { status: u8, text: String },
     /// A signal came at a place where the program could stop.
@@ -57,37 +63,39 @@ impl Failure {
             let text = format!("libcounter answered {number}, which is no number of a cause");
             return Failure::Error { status: INTERNAL, text };
         }
-        Failure::Refused { number, what: what.into(), detail: None, above: None }
+        Failure::Refused { number, what: what.into(), detail: None, above: None, least: None }
     }
 
     /// The same refusal with more said about it.
-    pub fn because(self, more: impl Into<String>) -> Failure {
-        match self {
-            Failure::Refused { number, what, above, .. } => {
-                Failure::Refused { number, what, detail: Some(more.into()), above }
-            }
-            other => other,
+    pub fn because(mut self, more: impl Into<String>) -> Failure {
+        if let Failure::Refused { detail, .. } = &mut self {
+            *detail = Some(more.into());
         }
+        self
     }
 
     /// The same refusal of something that is called otherwise.
-    pub fn about(self, what: &str) -> Failure {
-        match self {
-            Failure::Refused { number, detail, above, .. } => {
-                Failure::Refused { number, what: what.into(), detail, above }
-            }
-            other => other,
+    pub fn about(mut self, other: &str) -> Failure {
+        if let Failure::Refused { what, .. } = &mut self {
+            *what = other.into();
         }
+        self
     }
 
     /// The same refusal with the table's sizes.
-    pub fn above(self, above: Above) -> Failure {
-        match self {
-            Failure::Refused { number, what, detail, .. } => {
-                Failure::Refused { number, what, detail, above: Some(above) }
-            }
-            other => other,
+    pub fn above(mut self, sizes: Above) -> Failure {
+        if let Failure::Refused { above, .. } = &mut self {
+            *above = Some(sizes);
         }
+        self
+    }
+
+    /// The same refusal with the least size that would do.
+    pub fn at_least(mut self, size: u64) -> Failure {
+        if let Failure::Refused { least, .. } = &mut self {
+            *least = Some(size);
+        }
+        self
     }
 
     pub fn error(status: u8, text: impl Into<String>) -> Failure {

@@ -34,7 +34,7 @@ impl Given {
     }
 
     fn add(&mut self, list: &Path) -> Outcome<()> {
-        for (number, line) in lines::read(list)? {
+        for (number, line) in lines::read(list, "a folder, not a list")? {
             let taken = match of_header(&line) {
                 Some(field) => self.field(field),
                 None => names::read(&line).and_then(|path| self.line(&path)),

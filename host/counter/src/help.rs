@@ -300,7 +300,7 @@ fn json(forms: &[Form]) -> String {
             "  clip{name size}: of a fill; entries has the file that was filled in any case\n",
         );
     }
-    out.push_str("  A refusal: status refused cause about detail; 26 also table{before after maximum above}. Another\n  error: status error.\n");
+    out.push_str("  A refusal: status refused cause about detail; 26 also table{before after maximum above}, and 21 of\n  `new` least, which is the least --size. Another error: status error.\n");
     out
 }
 
@@ -403,10 +403,12 @@ fn statuses() -> String {
          \x20     --record: a FILE that is torn or no record, or whose used bytes or largest free region\n\
          \x20     are not the image's;\n\
          \x20     fill: a clip of no bytes without --empty, or of other than --size bytes;\n\
-         \x20     new: a LIST that is wrong, a name in DIR that an image cannot have, or a file in DIR\n\
-         \x20     that has another length meanwhile\n\
+         \x20     new: a LIST that is wrong; OUT in DIR; in DIR a name that Shift-JIS does not have, a\n\
+         \x20     counter-new.N, a file of 4 GiB or more, one whose length changes meanwhile, or more than\n\
+         \x20     100,000 files\n\
          \x20 66  no such image or clip, or a folder in its place, or a special file in the image's;\n\
-         \x20     new: no such LIST or DIR, or a link or a special file in DIR\n\
+         \x20     --given, --from LIST: no such LIST, or a folder in its place;\n\
+         \x20     new: no such DIR, or a file in its place, or a link or a special file in it\n\
          \x20 70  the library answered what it never should\n\
          \x20 73  an output, a journal, a clip that is kept or a record cannot be created, or is there already;\n\
          \x20     extract: two entries would be one file, or a name has too many bytes for a file\n\
@@ -414,8 +416,8 @@ fn statuses() -> String {
          \x20 75  another program is using the image, or the record's FILE\n\
          \x20 77  not allowed: a read-only file or disk, or no permission\n\
          \x20     64 to 75 and 77: header, table and files are as they were; with 74 free space may hold\n\
-         \x20     part of a copy\n\
-         \x20 76  the edit is written and synced, but its answer could not be printed\n\
+         \x20     part of a copy; `new` leaves nothing\n\
+         \x20 76  the edit, or the new image, is written and synced, but its answer could not be printed\n\
          \x20 78  an edit was cut: the image may hold a part of it, and its journal is there;\n\
          \x20     `counter recover IMAGE` finishes the edit. Or only its record is not written yet: the\n\
          \x20     last line says so. compare, report: nothing differs without leave, but an edit was cut of an\n\

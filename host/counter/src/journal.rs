@@ -85,6 +85,11 @@ pub fn beside(path: &Path) -> PathBuf {
     with(path, ".counter-journal")
 }
 
+/// The name that the journal has until it is whole.
+pub fn early_beside(path: &Path) -> PathBuf {
+    with(&beside(path), ".new")
+}
+
 /// The name of the clip of a fill, which is kept until the edit is done.
 pub fn clip_beside(path: &Path) -> PathBuf {
     with(path, ".counter-clip")
@@ -165,7 +170,7 @@ impl Journal {
     /// neither.
     pub fn start(image: &Path, plan: Plan, clip: Option<File>) -> io::Result<Journal> {
         let path = beside(image);
-        let early = with(&path, ".new");
+        let early = early_beside(image);
         let begun = begin(&early, &path, &encode(&plan));
         if begun.is_err() {
             let _ = fs::remove_file(&early);
@@ -182,7 +187,7 @@ impl Journal {
     pub fn find(image: &Path) -> io::Result<Option<Result<Journal, String>>> {
         let path = beside(image);
         // One that was cut before it had its name: the image was not touched then.
-        let _ = fs::remove_file(with(&path, ".new"));
+        let _ = fs::remove_file(early_beside(image));
         let bytes = match read(&path)? {
             Some(Ok(bytes)) => bytes,
             Some(Err(why)) => return Ok(Some(Err(why))),

@@ -1,18 +1,21 @@
 //! The lines of a list that the user wrote: a text file in UTF-8, or with --bytes in the image's bytes.
 
-use crate::failure::{DATA, Failure, Outcome};
+use crate::failure::{DATA, Failure, NO_INPUT, Outcome};
 use crate::image::cannot_open;
 use crate::names;
-use std::fs::File;
+use std::fs::{self, File};
 use std::io::Read;
 use std::path::Path;
 
 /// Most bytes of a list: those of 16,384 paths, the longest that there are.
 const LONGEST: u64 = 16 << 20;
-const MOST_LINES: usize = 100_000;
+pub const MOST_LINES: usize = 100_000;
 
-/// Each line that is not empty, with its number, from 1 on.
-pub fn read(list: &Path) -> Outcome<Vec<(usize, Vec<u8>)>> {
+/// Each line that is not empty, with its number, from 1 on. `a_folder` is what is said of a folder.
+pub fn read(list: &Path, a_folder: &str) -> Outcome<Vec<(usize, Vec<u8>)>> {
+    if fs::metadata(list).is_ok_and(|told| told.is_dir()) {
+        return Err(Failure::error(NO_INPUT, format!("{}: {a_folder}", names::file(list))));
+    }
     let mut bytes = Vec::new();
     File::open(list)
         .and_then(|file| file.take(LONGEST + 1).read_to_end(&mut bytes))
@@ -26,8 +29,9 @@ pub fn read(list: &Path) -> Outcome<Vec<(usize, Vec<u8>)>> {
     }
     // In Shift-JIS these three bytes begin a name.
     let text = bytes.strip_prefix(b"\xEF\xBB\xBF").filter(|_| !names::are_raw());
+    let text = text.unwrap_or(&bytes);
     let mut lines = Vec::new();
-    for (i, line) in text.unwrap_or(&bytes).split(|&b| b == b'\n').enumerate() {
+    for (i, line) in text.strip_suffix(b"\n").unwrap_or(text).split(|&b| b == b'\n').enumerate() {
         if i >= MOST_LINES {
             return wrong(": no list has more than 100,000 lines");
         }

@@ -186,7 +186,7 @@ fn finish(outcome: Outcome<u8>, json: bool) -> i32 {
 fn told(failure: &Failure) -> Json {
     let mut fields = vec![("status", Json::from(u32::from(failure.status())))];
     match failure {
-        Failure::Refused { number, what, detail, above } => {
+        Failure::Refused { number, what, detail, above, least } => {
             fields.push(("refused", (*number).into()));
             fields.push(("cause", cause(*number).into()));
             fields.push(("about", what.as_str().into()));
@@ -200,6 +200,7 @@ fn told(failure: &Failure) -> Json {
                 ];
                 ("table", Json::Object(numbers))
             }));
+            fields.extend(least.map(|least| ("least", least.into())));
         }
         other => fields.push(("error", other.to_string().into())),
     }

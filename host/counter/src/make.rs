@@ -13,24 +13,27 @@ use crate::names::{self, shown};
 use crate::os::{self, Access, Mapping};
 use crate::out::say;
 use crate::progress::Progress;
-use crate::recover::finish;
+use crate::recover::finish_as;
 use crate::room;
 use crate::save::vacant;
 use crate::signals;
 use crate::text::{counted, grouped, human};
 use crate::told::{dry, of_new};
-use crate::wanted::{Files, Source, Wanted};
+use crate::wanted::{Files, Source, Trouble, UNFINISHED, Wanted};
 use counter_sys::{self as counter, HEADER_SIZE, MOST_TABLE};
 use std::ffi::OsStr;
 use std::fs::{self, File};
 use std::io::{self, ErrorKind};
 use std::os::unix::ffi::OsStrExt;
+use std::os::unix::fs::OpenOptionsExt;
 use std::path::{Path, PathBuf};
 use std::process;
 
 /// What is asked for.
 struct Wish<'a> {
+    /// As it was given, and its place, whatever leads to its folder.
     out: &'a Path,
+    place: PathBuf,
     size: u32,
     code: [u8; 4],
     files: Files,
@@ -38,24 +41,44 @@ struct Wish<'a> {
     filled: bool,
 }
 
+impl Wish<'_> {
+    fn code(&self) -> String {
+        String::from_utf8_lossy(&self.code).into_owned()
+    }
+
+    fn lengths(&self) -> impl Iterator<Item = u64> {
+        self.files.files.iter().map(|file| file.size.into())
+    }
+}
+
 pub fn new(args: &Args) -> Outcome<()> {
-    let usage = || Failure::usage(format!("usage: {}", args.form.usage()));
-    let out = args.image.as_deref().ok_or_else(usage)?;
-    let (size, code) = args.size.zip(args.code.as_deref()).ok_or_else(usage)?;
+    let usage = |why: &str| Failure::usage(format!("{why}; usage: {}", args.form.usage()));
+    let out = args.image.as_deref().ok_or_else(|| usage("OUT is missing"))?;
+    let size = args.size.ok_or_else(|| usage("--size SIZE is missing"))?;
+    let code = args.code.as_deref().ok_or_else(|| usage("--code GAME is missing"))?;
     let (code, filled) = (game_code(code)?, args.folder.is_some());
-    // A journal by that name would be taken for one of the new image.
-    for path in [out, &journal::beside(out), &journal::clip_beside(out)] {
-        vacant(path)?;
+    signals::begin_making();
+    let place = resolved(out)?;
+    // A journal by that name would be taken for one of the new image; and no edit could make one whose name is
+    // too long.
+    let beside = [journal::beside, journal::early_beside, journal::clip_beside];
+    for path in [place.clone()].into_iter().chain(beside.map(|beside| beside(&place))) {
+        may_be_made(&path)?;
     }
     let files = match (&args.from, &args.folder) {
         (Some(list), None) => Files::listed(list)?,
-        (None, Some(folder)) => Files::found(folder)?,
-        _ => return Err(usage()),
+        (None, Some(folder)) => Files::found(folder, &place)?,
+        (None, None) => return Err(usage("--from LIST or --from-dir DIR is missing")),
+        _ => return Err(usage("--from and --from-dir: one of them is wanted")),
     };
-    let wish = Wish { out, size, code, files, filled };
+    let wish = Wish { out, place, size, code, files, filled };
     let mut desk = Desk::new();
     let image = made(&wish, &mut desk)?;
     let disc = Disc::read(&image, &mut desk)?.with_paths()?;
+    are_wanted(&wish, &disc)?;
+    if filled {
+        try_to_fill(&wish)?;
+    }
     let text = match args.json {
         true => told(args, &wish, &disc).document().into_bytes(),
         false => words(&wish, &disc),
@@ -69,7 +92,7 @@ pub fn new(args: &Args) -> Outcome<()> {
     drop(image);
     write(&wish, &disc, &mut desk, &front)?;
     let last: &[u8] = if args.json { b"" } else { b"done: written and synced\n" };
-    finish(&[&text, last].concat())
+    finish_as(&[&text, last].concat(), "meanwhile", "the new image is made and synced")
 }
 
 fn game_code(code: &OsStr) -> Outcome<[u8; 4]> {
@@ -77,6 +100,29 @@ fn game_code(code: &OsStr) -> Outcome<[u8; 4]> {
     let code: Option<[u8; 4]> = code.as_bytes().try_into().ok();
     code.filter(plain)
         .ok_or_else(|| Failure::usage("--code: a game code has four characters of ASCII, as GCLE"))
+}
+
+/// The place of OUT, whatever leads to its folder; names may be made there.
+fn resolved(out: &Path) -> Outcome<PathBuf> {
+    let bytes = out.as_os_str().as_bytes();
+    let (folder, name) =
+        bytes.split_at(bytes.iter().rposition(|&b| b == b'/').map_or(0, |at| at + 1));
+    if matches!(name, b"" | b"." | b"..") {
+        return Err(Failure::usage(format!("\"{}\": this is no name of a file", names::file(out))));
+    }
+    let folder = if folder.is_empty() { b"." } else { folder };
+    let folder = fs::canonicalize(OsStr::from_bytes(folder)).map_err(|e| not_made(out, &e))?;
+    os::may_write(&folder).map_err(|e| not_made(out, &e))?;
+    Ok(folder.join(OsStr::from_bytes(name)))
+}
+
+/// That nothing has the name, and that something can.
+fn may_be_made(path: &Path) -> Outcome<()> {
+    vacant(path)?;
+    match fs::symlink_metadata(path) {
+        Err(e) if e.kind() != ErrorKind::NotFound => Err(not_made(path, &e)),
+        _ => Ok(()),
+    }
 }
 
 /// The new image in memory: header and table are in it, and what is behind them is zero.
@@ -89,10 +135,21 @@ fn made(wish: &Wish, desk: &mut Desk) -> Outcome<Image> {
     Ok(image)
 }
 
+/// The table has the files in the order in which the library was given them, and no others.
+fn are_wanted(wish: &Wish, disc: &Disc) -> Outcome<()> {
+    let has = files(disc).map(|(node, _, size)| (&node.path[1..], size));
+    let wanted = wish.files.files.iter().map(|file| (&file.path[..], file.size));
+    match has.eq(wanted) {
+        true => Ok(()),
+        false => Err(Failure::error(INTERNAL, "the files of libcounter are not those wanted")),
+    }
+}
+
 fn refused(wish: &Wish, number: u32) -> Failure {
     let failure = Failure::refused(number, format!("new {}", names::file(wish.out)));
     match wish.files.trouble(number) {
-        Some(why) => failure.because(why),
+        Some(Trouble { why, least: Some(least) }) => failure.because(why).at_least(least),
+        Some(Trouble { why, least: None }) => failure.because(why),
         None => failure,
     }
 }
@@ -118,7 +175,9 @@ fn notes(wish: &Wish, disc: &Disc, spell: fn(&[u8]) -> Vec<u8>) -> Vec<Vec<u8>> 
         format!("{} holds no file: the new master does not have it", names::file(folder)).into()
     });
     let new: Vec<&Node> = disc.nodes.iter().skip(1).collect();
-    left_out.chain(of_new(&new, disc, spell)).collect()
+    let empty = wish.files.files.is_empty();
+    let empty = empty.then(|| b"there are no files: the master has an empty table".to_vec());
+    left_out.chain(empty).chain(of_new(&new, disc, spell)).collect()
 }
 
 fn words(wish: &Wish, disc: &Disc) -> Vec<u8> {
@@ -127,7 +186,7 @@ fn words(wish: &Wish, disc: &Disc) -> Vec<u8> {
         "made {}: {} bytes, game code {}, {}, {}\n",
         names::file(wish.out),
         grouped(wish.size.into()),
-        String::from_utf8_lossy(&wish.code),
+        wish.code(),
         counted(count, "file", "files"),
         counted(disc.nodes.len() - 1 - count, "folder", "folders"),
     )
@@ -168,7 +227,7 @@ fn told(args: &Args, wish: &Wish, disc: &Disc) -> Json {
         ("dry_run", args.dry.into()),
         ("written", (!args.dry).into()),
         ("size", wish.size.into()),
-        ("game_code", String::from_utf8_lossy(&wish.code).into_owned().into()),
+        ("game_code", wish.code().into()),
         ("fst_size", disc.opened.fst_size.into()),
         ("used", used.into()),
         ("free", free.into()),
@@ -184,12 +243,12 @@ fn told(args: &Args, wish: &Wish, disc: &Disc) -> Json {
 /// Makes the file under another name in the same folder, and gives it its own when it is on the disk. Whatever
 /// goes wrong, nothing of it is left.
 fn write(wish: &Wish, disc: &Disc, desk: &mut Desk, front: &[u8]) -> Outcome<()> {
-    let out = resolved(wish.out)?;
-    let (early, file) = begin(&out).map_err(|e| not_made(wish.out, &e))?;
+    signals::let_others_wait();
+    let (early, file) = begin(&wish.place).map_err(|e| not_made(wish.out, &e))?;
     let done = fill_in(wish, disc, desk, front, &early, file).and_then(|()| {
         // From here on it is only a moment.
         signals::begin_writing(false);
-        put_in_place(&early, &out).map_err(|e| not_made(wish.out, &e))
+        put_in_place(&early, &wish.place).map_err(|e| not_made(wish.out, &e))
     });
     if done.is_err() {
         let _ = fs::remove_file(&early);
@@ -198,25 +257,12 @@ fn write(wish: &Wish, disc: &Disc, desk: &mut Desk, front: &[u8]) -> Outcome<()>
     done
 }
 
-/// The place of OUT, whatever leads to its folder.
-fn resolved(out: &Path) -> Outcome<PathBuf> {
-    let Some(name) = out.file_name() else {
-        return Err(Failure::usage(format!("{}: this is no name of a file", names::file(out))));
-    };
-    let folder = match out.parent() {
-        Some(folder) if !folder.as_os_str().is_empty() => folder,
-        _ => Path::new("."),
-    };
-    let folder = fs::canonicalize(folder).map_err(|e| not_made(out, &e))?;
-    Ok(folder.join(name))
-}
-
-/// A new file in the folder of `out`, which a signal takes away. One that SIGKILL or a power cut left has its
+/// A new file in the folder of `out`, which a signal that people send takes away. One that SIGKILL or a power cut left has its
 /// name for good.
 fn begin(out: &Path) -> io::Result<(PathBuf, File)> {
     let mut number = process::id();
     loop {
-        let path = out.with_file_name(format!("counter-new.{number}"));
+        let path = out.with_file_name(format!("{UNFINISHED}{number}"));
         let created = os::holding(|| {
             let created = disk::create(On::Image, &path);
             if created.is_ok() {
@@ -257,18 +303,11 @@ fn fill_in(
     if !wish.filled {
         return disk::sync(On::Image, &file).map_err(failed);
     }
-    let wanted = wish.files.files.iter().map(|file| u64::from(file.size));
-    enough_room(wish.out, &file, wanted.clone())?;
-    let progress = Progress::start("new", wanted.sum());
+    let progress = Progress::start("new", wish.lengths().sum());
     let mut image = Image::fresh(early, file)?;
     let mut record =
         counter::make_record(image.bytes(), &mut desk.lend()).map_err(|n| not_opened(&image, n))?;
     for ((node, ..), wanted) in files(disc).zip(&wish.files.files) {
-        // The table has the files in the order in which the library was given them.
-        if node.path[1..] != wanted.path {
-            let text = format!("{}: libcounter told another file", names::text(&node.path));
-            return Err(Failure::error(INTERNAL, text));
-        }
         let Source::File(path) = &wanted.source else { continue };
         let clip = contents(path, wanted)?;
         counter::fill_file(
@@ -284,10 +323,28 @@ fn fill_in(
     image.sync().map_err(failed)
 }
 
+/// What can be found out before anything is written: that the files can be read, and that there is room.
+fn try_to_fill(wish: &Wish) -> Outcome<()> {
+    for file in &wish.files.files {
+        if let Source::File(path) = &file.source {
+            opened(path)?;
+        }
+    }
+    let folder = wish.place.parent().unwrap_or(Path::new("/"));
+    let folder = File::open(folder).map_err(|e| not_made(wish.out, &e))?;
+    enough_room(wish.out, &folder, wish.lengths())
+}
+
+fn opened(path: &Path) -> Outcome<File> {
+    // Something else may have its name meanwhile.
+    let opened = File::options().read(true).custom_flags(os::O_NONBLOCK).open(path);
+    opened.map_err(|e| cannot_open(path, &e))
+}
+
 /// The file's bytes, which must be as many as the master has room for.
 fn contents(path: &Path, wanted: &Wanted) -> Outcome<Mapping> {
     let failed = |e: io::Error| cannot_open(path, &e);
-    let file = File::open(path).map_err(failed)?;
+    let file = opened(path)?;
     let len = file.metadata().map_err(failed)?.len();
     if len != u64::from(wanted.size) {
         let (had, has) = (grouped(wanted.size.into()), grouped(len));
@@ -299,12 +356,12 @@ fn contents(path: &Path, wanted: &Wanted) -> Outcome<Mapping> {
 
 /// A file that is mapped can say only by a signal that the disk is full, so that is asked before; the disk
 /// wants some of it for its own books.
-fn enough_room(out: &Path, file: &File, sizes: impl Iterator<Item = u64>) -> Outcome<()> {
+fn enough_room(out: &Path, on: &File, sizes: impl Iterator<Item = u64>) -> Outcome<()> {
     const BLOCK: u64 = 0x1000;
     const SLACK: u64 = 0x1_0000;
     let files: u64 = sizes.map(|size| size.next_multiple_of(BLOCK)).sum();
     let needed = files + files / 64 + SLACK;
-    match room::left(file) {
+    match room::left(on) {
         Some(left) if needed > left && !disk::assumes_room() => {
             let text = format!(
                 "{}: the disk is full: the new image takes {}, and the disk has {} left; nothing was written",

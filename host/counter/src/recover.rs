@@ -68,15 +68,19 @@ pub struct Finished {
 /// Says the last word of an edit; that it is done and synced is told by the status too. Then a signal
 /// that came meanwhile has its turn.
 pub fn finish(text: &[u8]) -> Outcome<()> {
+    finish_as(text, "during the edit", "the edit is done and synced")
+}
+
+/// The same of what is not an edit of an image.
+pub fn finish_as(text: &[u8], during: &str, done: &str) -> Outcome<()> {
     if let Err(why) = say(text) {
-        let text =
-            format!("the edit is done and synced, but its answer could not be printed: {why}");
+        let text = format!("{done}, but its answer could not be printed: {why}");
         return Err(Failure::error(UNSAID, text));
     }
     match signals::signalled() {
         None => Ok(()),
         Some(number) => {
-            let text = format!("signal {number} came during the edit; the edit is done and synced");
+            let text = format!("signal {number} came {during}; {done}");
             Err(Failure::Signal { number, text })
         }
     }

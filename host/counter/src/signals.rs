@@ -69,8 +69,10 @@ const GIVEN_UP: u8 = 3;
 static CAUGHT: AtomicI32 = AtomicI32::new(0);
 static STAGE: AtomicU8 = AtomicU8::new(READING);
 static HOLDING: AtomicBool = AtomicBool::new(false);
+/// It is a new image that is made.
+static MAKING: AtomicBool = AtomicBool::new(false);
 /// Signals that whoever started the program had blocked.
-static BLOCKED: AtomicU64 = AtomicU64::new(0);
+static BLOCKED: OnceLock<u64> = OnceLock::new();
 static UNFINISHED: AtomicPtr<c_char> = AtomicPtr::new(ptr::null_mut());
 static RESCUE: AtomicPtr<*const c_char> = AtomicPtr::new(ptr::null_mut());
 /// When writing began, and how many milliseconds an edit took that was finished before; how many milliseconds
@@ -85,6 +87,9 @@ const CUT_READING: &[u8] =
 const CUT_MAKING: &[u8] =
     b"counter: input/output error: what is read became shorter, or the disk failed or is full; nothing is left \
       of the new file\n";
+const CUT_NEW: &[u8] =
+    b"counter: input/output error: a file of DIR became shorter, or the disk failed or is full; nothing is left \
+      of the new image\n";
 const CUT_WRITING: &[u8] =
     b"counter: the disk failed or is full in the midst of the edit; it is now finished from the journal\n";
 const CUT_FOR_GOOD: &[u8] =
@@ -135,6 +140,9 @@ fn noted(number: i32) {
         (Ok(_) | Err(GIVEN_UP), _) => {
             tell(format_args!("{line}counter: {name}: the edit is given up\n"))
         }
+        _ if is_making() => {
+            tell(format_args!("{line}counter: {name}: the new image is finished first\n"))
+        }
         (_, 0) => tell(format_args!("{line}counter: {name}: the edit is finished first\n")),
         (_, left) => tell(format_args!(
             "{line}counter: {name}: the edit is finished first: about {left} s\n"
@@ -167,7 +175,8 @@ pub fn expect(done: u64, left: u64) {
 
 /// Says so, takes a file that is not finished away, and ends as the signal ends a program.
 fn stop(number: i32) {
-    tell(format_args!("counter: stopped by {}; the image is as it was\n", called(number)));
+    let what = if is_making() { "nothing was made" } else { "the image is as it was" };
+    tell(format_args!("counter: stopped by {}; {what}\n", called(number)));
     let unfinished = UNFINISHED.load(Ordering::SeqCst);
     unsafe {
         if !unfinished.is_null() {
@@ -191,6 +200,7 @@ extern "C" fn cut_off(_: i32) {
     let text = match (writing, unfinished.is_null()) {
         (true, _) => CUT_WRITING,
         (false, true) => CUT_READING,
+        (false, false) if is_making() => CUT_NEW,
         (false, false) => CUT_MAKING,
     };
     unsafe {
@@ -235,19 +245,31 @@ pub fn begin_writing(free_space_first: bool) {
     let _ = BEGUN.set(Instant::now());
     BEFORE.fetch_add(now(), Ordering::SeqCst);
     expect(1, 0);
-    let before = STAGE.swap(if free_space_first { FREE } else { FOR_GOOD }, Ordering::SeqCst);
+    STAGE.store(if free_space_first { FREE } else { FOR_GOOD }, Ordering::SeqCst);
     if free_space_first && CAUGHT.load(Ordering::SeqCst) != 0 {
         STAGE.store(GIVEN_UP, Ordering::SeqCst);
     }
+    let_others_wait();
+}
+
+/// From here on a new image is made, and no image is touched.
+pub fn begin_making() {
+    MAKING.store(true, Ordering::SeqCst);
+}
+
+fn is_making() -> bool {
+    MAKING.load(Ordering::SeqCst)
+}
+
+/// Every signal waits for the end, but for those that people send and the one that a failing page sends.
+pub fn let_others_wait() {
     let mut all = Set([u64::MAX; 16]);
     for number in SENT.into_iter().chain([SIGBUS]) {
         all.0[0] &= !Set::one(number).0[0];
     }
     let mut blocked = Set([0; 16]);
     unsafe { pthread_sigmask(SIG_BLOCK, &all, &mut blocked) };
-    if before == READING {
-        BLOCKED.store(blocked.0[0], Ordering::SeqCst);
-    }
+    let _ = BLOCKED.set(blocked.0[0]);
 }
 
 /// The signal for which the edit is given up, if it is.
@@ -294,7 +316,7 @@ pub fn signalled() -> Option<i32> {
     }
     let mut waiting = Set([0; 16]);
     unsafe { sigpending(&mut waiting) };
-    waiting.0[0] &= !BLOCKED.load(Ordering::SeqCst);
+    waiting.0[0] &= !BLOCKED.get().copied().unwrap_or(0);
     (1..=64).find(|&number| waiting.has(number) && !HARMLESS.contains(&number) && minded(number))
 }
 

@@ -4,21 +4,16 @@
 use crate::disc::CLUSTER;
 use crate::failure::{DATA, Failure, NO_INPUT, Outcome};
 use crate::image::cannot_open;
-use crate::lines;
+use crate::lines::{self, MOST_LINES};
 use crate::names;
-use crate::text::{counted, grouped, number};
+use crate::text::{grouped, number};
 use crate::units;
-use counter_sys::{
-    self as counter, HEADER_SIZE, MOST_ENTRIES, MOST_LEVELS, MOST_PATH, MOST_TEXT, Memory,
-};
+use counter_sys::{self as counter, HEADER_SIZE, MOST_ENTRIES, MOST_LEVELS, MOST_PATH, MOST_TEXT};
 use std::collections::HashMap;
 use std::fs::{self, DirEntry};
 use std::io;
 use std::os::unix::ffi::OsStrExt;
 use std::path::{Path, PathBuf};
-
-/// A folder with more files is not meant.
-const MOST_FILES: usize = 100_000;
 
 /// Where a file comes from.
 pub enum Source {
@@ -47,7 +42,7 @@ impl Files {
     /// Those of a list: a path and a size a line.
     pub fn listed(list: &Path) -> Outcome<Files> {
         let mut files = Files { from: list.to_path_buf(), ..Files::default() };
-        for (at, text) in lines::read(list)? {
+        for (at, text) in lines::read(list, "a folder; --from-dir takes one")? {
             let (path, size) = line(&text).map_err(|why| lines::wrong(list, at, &why))?;
             files.files.push(Wanted { path, size, source: Source::Line(at) });
         }
@@ -55,12 +50,20 @@ impl Files {
         Ok(files)
     }
 
-    /// Those of a folder of the system, and of the folders in it.
-    pub fn found(folder: &Path) -> Outcome<Files> {
+    /// Those of a folder of the system, and of the folders in it, which are not to have the new image, nor one
+    /// that a cut left unfinished.
+    pub fn found(folder: &Path, out: &Path) -> Outcome<Files> {
         let told = fs::metadata(folder).map_err(|e| cannot_open(folder, &e))?;
         if !told.is_dir() {
             let text = format!("{}: a folder is wanted", names::file(folder));
             return Err(Failure::error(NO_INPUT, text));
+        }
+        let place = fs::canonicalize(folder).map_err(|e| cannot_open(folder, &e))?;
+        if out.starts_with(&place) {
+            let (out, folder) = (names::file(out), names::file(folder));
+            let text =
+                format!("{out}: this is in {folder}, of which it is made; name a place elsewhere");
+            return Err(Failure::error(DATA, text));
         }
         let mut files = Files { from: folder.to_path_buf(), ..Files::default() };
         files.walk(folder, b"")?;
@@ -83,6 +86,10 @@ impl Files {
             let name =
                 names::read(entry.file_name().as_bytes()).map_err(|why| wrong(DATA, &why))?;
             let told = fs::symlink_metadata(&path).map_err(|e| cannot_open(&path, &e))?;
+            if is_unfinished(&name) {
+                let why = "a name that a new image has until it is finished; take it away";
+                return Err(wrong(DATA, why));
+            }
             let inside = [inside, &name].concat();
             if told.is_dir() {
                 self.walk(&path, &[&inside[..], b"/"].concat())?;
@@ -93,15 +100,13 @@ impl Files {
                 let why = format!("{kind}; a new master is made of plain files and folders alone");
                 return Err(wrong(NO_INPUT, &why));
             }
-            if self.files.len() == MOST_FILES {
+            // A list cannot have more either.
+            if self.files.len() == MOST_LINES {
                 return Err(wrong(DATA, "there are more than 100,000 files"));
             }
             let size = u32::try_from(told.len()).map_err(|_| {
-                let most = grouped(u32::MAX.into());
-                Failure::refused(21, names::file(&path)).because(format!(
-                    "it has {} bytes, and a file of an image at most {most}",
-                    grouped(told.len())
-                ))
+                let (has, most) = (grouped(told.len()), grouped(u32::MAX.into()));
+                wrong(DATA, &format!("it has {has} bytes, and a file of an image at most {most}"))
             })?;
             self.files.push(Wanted { path: inside, size, source: Source::File(path) });
         }
@@ -127,19 +132,28 @@ impl Files {
     }
 }
 
+/// What `make` calls an image that is not finished.
+pub const UNFINISHED: &str = "counter-new.";
+
+fn is_unfinished(name: &[u8]) -> bool {
+    let number = name.strip_prefix(UNFINISHED.as_bytes());
+    number.is_some_and(|number| !number.is_empty() && number.iter().all(u8::is_ascii_digit))
+}
+
 /// A path, then a size: behind the first tab if there is one, else behind the last space.
 fn line(line: &[u8]) -> Result<(Vec<u8>, u32), String> {
-    let line = line.trim_ascii_end();
+    let line = trimmed(line.trim_ascii_end());
     let (path, size) = match line.iter().position(|&b| b == b'\t') {
         Some(tab) => (&line[..tab], &line[tab..]),
         None => {
             let space = line.iter().rposition(|&b| b == b' ');
             let space =
                 space.ok_or("a path is wanted, and behind it a space or a tab and a size")?;
-            (line[..space].trim_ascii_end(), &line[space..])
+            (&line[..space], &line[space..])
         }
     };
     let size = number(size.trim_ascii())?;
+    let path = trimmed(path);
     if path.contains(&0) {
         return Err("a zero byte, which no path has".into());
     }
@@ -147,18 +161,41 @@ fn line(line: &[u8]) -> Result<(Vec<u8>, u32), String> {
     Ok((path.strip_prefix(b"/").unwrap_or(&path).to_vec(), size))
 }
 
+/// Without the spaces and tabs around it: neither is a pair's second byte.
+fn trimmed(path: &[u8]) -> &[u8] {
+    let is_ink = |byte: &u8| !b" \t".contains(byte);
+    let start = path.iter().position(is_ink).unwrap_or(path.len());
+    let end = path.iter().rposition(is_ink).map_or(start, |last| last + 1);
+    &path[start..end]
+}
+
 // What is wrong ---------------------------------------------------------------------------
+
+/// What a refusal is about.
+pub struct Trouble {
+    pub why: String,
+    /// The least size that would do, if it is one that an image can have.
+    pub least: Option<u64>,
+}
+
+impl Trouble {
+    fn of(why: String) -> Trouble {
+        Trouble { why, least: None }
+    }
+}
 
 impl Files {
     /// What a refusal with the number is about: the first file that is refused for itself or for one before it,
     /// a limit of the whole tree, or the room that is wanted.
-    pub fn trouble(&self, number: u32) -> Option<String> {
-        let found = self.of_paths();
-        match number {
-            21 => Some(self.too_large()),
-            9 if found.is_none() => self.past_a_limit(),
-            _ => found.filter(|(refused, _)| *refused == number).map(|(_, words)| words),
+    pub fn trouble(&self, number: u32) -> Option<Trouble> {
+        if number == 21 {
+            return Some(self.too_large());
         }
+        let why = match self.of_paths() {
+            None if number == 9 => self.past_a_limit(),
+            found => found.filter(|(refused, _)| *refused == number).map(|(_, why)| why),
+        };
+        why.map(Trouble::of)
     }
 
     /// The first file that the library refuses, and with which number.
@@ -260,13 +297,15 @@ impl Files {
         }
     }
 
-    fn too_large(&self) -> String {
-        let least = counted(self.least() as usize, "byte", "bytes");
+    fn too_large(&self) -> Trouble {
+        let least = self.least();
         let files = "header, table and files, each from a multiple of 0x8000 on";
-        match self.least() > u32::MAX.into() {
-            true => format!("{files}, take {least}, and no disc is that large"),
-            false => format!("{files}, take {least}"),
+        if least > u32::MAX.into() {
+            let least = grouped(least);
+            return Trouble::of(format!("{files}, take {least} bytes, and no disc is that large"));
         }
+        let why = format!("--size has to be at least {}: {files}, take as much", grouped(least));
+        Trouble { why, least: Some(least) }
     }
 }
 
@@ -282,17 +321,21 @@ fn by_itself(path: &[u8]) -> Option<(u32, String)> {
             format!("the path has {} bytes, and 1,024 are the most", grouped(path.len() as u64));
         return Some((9, why));
     }
-    // With nothing lent the path is all that can be judged.
-    let memory = &mut Memory { words: &mut [], bytes: &mut [] };
-    let ended = [path, b"\0"].concat();
-    let number = match counter::master(&mut [], memory, &[0; 4], 0, &[0], &ended) {
-        Err(number @ (12 | 13)) => number,
-        _ => return None,
-    };
-    let why = path.split(|&b| b == b'/').find_map(|part| match (number, part) {
-        (13, b"") => Some("a part of it is empty".into()),
-        (13, b"." | b"..") => Some(format!("a part of it is {}", names::text(part))),
+    let parts = || path.split(|&b| b == b'/');
+    let refused = |number| parts().find(|part| judged(part) == number).map(|part| (number, part));
+    let (number, part) = refused(13).or_else(|| refused(12))?;
+    let why = match part {
+        b"" => Some("a part of it is empty".into()),
+        b"." | b".." => Some(format!("a part of it is {}", names::text(part))),
         _ => units::trouble(part, number),
-    });
+    };
     Some((number, why.unwrap_or_else(|| "it is no path of a file".into())))
+}
+
+/// What the library answers of a part as a name; it cuts a path at / alone.
+fn judged(part: &[u8]) -> u32 {
+    match part {
+        b"." | b".." => 13,
+        _ => counter::name(part),
+    }
 }

@@ -153,7 +153,7 @@ fn a_nearly_full_btrfs_is_no_danger() {
 // A new master ----------------------------------------------------------------------------
 
 /// $1 folder with the folder `files` and new.iso, which it makes, $2 program; then KiB left, as above. Prints a line
-/// for each: left, status, what there is of the new image, and how many other files.
+/// for each: left, status, what there is of the new image, how many other files, and the status of a dry run before.
 const NEW: &str = r#"set -e
 dir=$1; counter=$2; shift 2
 truncate -s 32M "$dir/ext4.img"
@@ -171,6 +171,8 @@ for left; do
     status=0
     unset COUNTER_ASSUME_ROOM
     case $left in *!) export COUNTER_ASSUME_ROOM=1 ;; esac
+    dry=0
+    "$counter" new new.iso --size 16M --code GCTE --from-dir "$dir/files" --dry-run >&2 || dry=$?
     "$counter" new new.iso --size 16M --code GCTE --from-dir "$dir/files" > "$dir/said" 2>&1 || status=$?
     sed "s/^/$left: /" "$dir/said" >&2
     found=none
@@ -178,7 +180,7 @@ for left; do
         found=part
         if cmp -s new.iso "$dir/new.iso"; then found=whole; fi
     fi
-    echo "$left $status $found $(find . -type f ! -name new.iso ! -name filler | wc -l)"
+    echo "$left $status $found $(find . -type f ! -name new.iso ! -name filler | wc -l) $dry"
 done
 cd /; umount "$dir/ext4"
 "#;
@@ -206,9 +208,12 @@ fn a_new_master_on_a_nearly_full_ext4_is_whole_or_none() {
     for line in run.out.lines() {
         let words: Vec<&str> = line.split(' ').collect();
         match words[1..] {
-            ["0", "whole", "0"] => {}
-            // The folder may find no room for another name.
-            ["73" | "74", "none", "0"] => assert!(words[0] != "8000", "{line}"),
+            ["0", "whole", "0", "0"] => {}
+            // The folder may find no room for another name. Where room is looked for, a dry run does so too.
+            ["73" | "74", "none", "0", dry] => {
+                assert!(words[0] != "8000", "{line}");
+                assert!(words[0].ends_with('!') || dry == "74", "{line}");
+            }
             _ => panic!("{line}: {}", run.err),
         }
     }

@@ -5,7 +5,8 @@ mod support;
 use std::fs::{self, File};
 use std::io::Read;
 use std::os::unix::ffi::OsStrExt;
-use std::os::unix::fs::{OpenOptionsExt, symlink};
+use std::os::unix::fs::{OpenOptionsExt, PermissionsExt, symlink};
+use std::os::unix::process::CommandExt;
 use std::path::{Path, PathBuf};
 use std::process::{Child, Command, Stdio};
 use std::thread;
@@ -101,7 +102,11 @@ fn a_list_makes_a_master() {
     let run = new(&temp.at("small.iso"), "0x28000", "--from", &list, &[]);
     assert_eq!(run.status, 21);
     assert!(run.err.contains("refused 21: no space ("), "{}", run.err);
-    assert!(run.err.contains("take 163,841 bytes"), "{}", run.err);
+    assert!(
+        run.err.contains("(--size has to be at least 163,841: header, table and files"),
+        "{}",
+        run.err
+    );
     assert!(!temp.at("small.iso").exists());
 }
 
@@ -142,7 +147,11 @@ fn the_answer_as_json() {
     let run = new(&out, "0x28001", "--from", &list, &["--json"]);
     assert_eq!((run.status, Json::read(&run.out).at("status").number()), (73, 73));
     let run = new(&temp.at("x"), "0x28000", "--from", &list, &["--json"]);
-    assert_eq!((run.status, Json::read(&run.out).at("refused").number()), (21, 21));
+    let told = Json::read(&run.out);
+    assert_eq!(
+        (run.status, told.at("refused").number(), told.at("least").number()),
+        (21, 21, 0x2_8001)
+    );
 }
 
 fn run_help() -> String {
@@ -184,8 +193,9 @@ fn lines_in_every_form() {
     assert_eq!(one(b""), []);
     assert_eq!(one(b"\n\r\n\n"), []);
     assert_eq!(one(b"a 12"), file("/a", 12));
-    assert_eq!(one(b"\xEF\xBB\xBF/a \t 0x12\t \r\n"), file("/a ", 0x12));
-    assert_eq!(one(b" a 1K\n"), file("/ a", 1024));
+    assert_eq!(one(b"\xEF\xBB\xBF/a \t 0x12\t \r\n"), file("/a", 0x12));
+    assert_eq!(one(b" a 1K\n \t b\t2\n"), [("/a".into(), 1024), ("/b".into(), 2)]);
+    assert_eq!(one(b"/ a 1\n"), file("/ a", 1));
     assert_eq!(one(b"a  b   c 1\n"), file("/a  b   c", 1));
     assert_eq!(one(b"a 7\t1\n"), file("/a 7", 1));
     assert_eq!(one(b"1 1\n"), file("/1", 1));
@@ -209,6 +219,15 @@ fn lines_in_every_form() {
         assert!(run.err.contains(words), "{list:?}: {}", run.err);
     }
     assert_eq!(new(&out, "4M", "--from", &temp.at("nothing"), &[]).status, 66);
+    let run = new(&out, "4M", "--from", &temp.at(""), &[]);
+    assert_eq!(run.status, 66);
+    assert!(run.err.contains("a folder; --from-dir takes one"), "{}", run.err);
+    // So many lines, and an end of the last one, are no line too many.
+    let most = "\n".repeat(99_999);
+    assert_eq!(one((most.clone() + "a 1\n").as_bytes()), file("/a", 1));
+    let run = made((most + "a 1\n\n").as_bytes(), &[]).err().unwrap();
+    assert_eq!(run.status, 65);
+    assert!(run.err.contains("no list has more than 100,000 lines"), "{}", run.err);
 }
 
 /// The status is the number; the line, and what is wrong with it, are told; nothing is made.
@@ -245,7 +264,7 @@ fn what_the_library_refuses() {
             21,
             &["take 8,589,967,359 bytes, and no disc is that large"],
         ),
-        ("a 1\nb 0x8000\nc 0x800000\n", 21, &["take 8,454,145 bytes"]),
+        ("a 1\nb 0x8000\nc 0x800000\n", 21, &["at least 8,454,145: "]),
     ];
     for (text, number, words) in cases {
         let list = temp.write("wishes.txt", text.as_bytes());
@@ -294,6 +313,42 @@ fn as_many_and_as_long_as_a_table_takes() {
     let more = [long(1023), vec![format!("{} 0\n", "a".repeat(1024))]].concat();
     limit(more, Err("the table would have 1,048,577 bytes of names, and 1,048,576 are the most"));
     limit(vec!["d/".repeat(64) + "x 0\n"], Ok(()));
+}
+
+/// The least size that is told is taken, and a byte less is not.
+#[test]
+fn the_least_size_is_exact() {
+    let temp = Temp::new();
+    let mut random = 0x2545_F491_4F6C_DD1D_u64;
+    let mut below = |most: u64| {
+        random ^= random << 13;
+        random ^= random >> 7;
+        random ^= random << 17;
+        random % most
+    };
+    for round in 0..60 {
+        let lines = (0..below(12)).map(|k| {
+            let folders = "d/".repeat(below(3) as usize);
+            let size = match below(4) {
+                0 => 0,
+                1 => below(4) * 0x8000,
+                2 => below(0x8000),
+                _ => below(0x5_0000),
+            };
+            format!("{folders}{}{k} {size}\n", "x".repeat(below(200) as usize))
+        });
+        let list = temp.write("wishes.txt", lines.collect::<String>().as_bytes());
+        let made = |size: u64| {
+            let more = ["--dry-run", "--json"];
+            let run = new(&temp.at("new.iso"), &size.to_string(), "--from", &list, &more);
+            (run.status, Json::read(&run.out))
+        };
+        let (status, told) = made(0);
+        assert_eq!(status, 21, "{round}");
+        let least = told.at("least").number() as u64;
+        assert_eq!(made(least).0, 0, "{round}: {least}");
+        assert_eq!(made(least - 1).0, 21, "{round}: {least}");
+    }
 }
 
 #[test]
@@ -389,6 +444,22 @@ fn a_folder_comes_back_byte_for_byte() {
     assert_ne!(new(&temp.at("wrong.iso"), "2M", "--from-dir", &raw, &[]).status, 0);
 }
 
+/// The line of help that writes a LIST of a disc does.
+#[test]
+fn the_list_of_a_disc() {
+    let temp = Temp::new();
+    let (folder, out, again) = (tree(&temp), temp.at("new.iso"), temp.at("again.iso"));
+    assert_eq!(new(&out, "2M", "--from-dir", &folder, &[]).status, 0);
+    let help = run_help().split_whitespace().collect::<Vec<_>>().join(" ");
+    let line = help.split('`').find(|part| part.starts_with("counter list disc.iso |")).unwrap();
+    let behind = line.split_once('|').unwrap().1;
+    let line = format!("{} list {} |{behind}", env!("CARGO_BIN_EXE_counter"), out.display());
+    let list = Command::new("bash").args(["-c", &line]).output().unwrap().stdout;
+    let list = temp.write("wishes.txt", &list);
+    assert_eq!(new(&again, "2M", "--from", &list, &["--bytes"]).status, 0);
+    assert_eq!(Table::of(&again), Table::of(&out));
+}
+
 #[test]
 fn folders_that_hold_no_file_are_told() {
     let temp = Temp::new();
@@ -414,6 +485,16 @@ fn folders_that_hold_no_file_are_told() {
     assert_eq!(new(&out, "0x44b", "--from-dir", &nothing, &[]).status, 21);
     assert_eq!(new(&out, "0x44c", "--from-dir", &nothing, &[]).status, 0);
     assert!(fs::read(&out).unwrap() == master(0x44C, &[], &[]));
+    // That is told.
+    let words = "there are no files: the master has an empty table";
+    let list = temp.write("wishes.txt", b"\n");
+    for (from, source) in [("--from", &list), ("--from-dir", &nothing)] {
+        let out = temp.at("none.iso");
+        let run = new(&out, "1M", from, source, &["--dry-run"]);
+        assert!(run.out.contains(&format!("\ndry run: note: {words}\n")), "{}", run.out);
+        let run = new(&out, "1M", from, source, &["--dry-run", "--json"]);
+        assert_eq!(Json::read(&run.out).at("notes").list()[0].text(), words);
+    }
 }
 
 #[test]
@@ -449,9 +530,9 @@ fn what_in_a_folder_is_no_plain_file() {
     fs::remove_file(folder.join("〜")).unwrap();
     let large = File::create(folder.join("large")).unwrap();
     large.set_len(1 << 32).unwrap();
-    fails(21, "it has 4,294,967,296 bytes, and a file of an image at most 4,294,967,295");
+    fails(65, "it has 4,294,967,296 bytes, and a file of an image at most 4,294,967,295");
     large.set_len(0x20_0000).unwrap();
-    fails(21, "take 2,457,601 bytes");
+    fails(21, "at least 2,457,601: ");
     for source in ["files/opening.bnr", "nowhere"] {
         assert_eq!(new(&out, "2M", "--from-dir", &temp.at(source), &[]).status, 66);
     }
@@ -480,13 +561,18 @@ fn what_is_there_stays() {
     assert_eq!(fs::read(&file).unwrap(), b"mine");
     assert_eq!(names(&temp.at("")), before);
     // A journal, or a clip, that would be taken for one of the new image's.
-    for end in ["iso.counter-journal", "iso.counter-clip"] {
+    for end in ["iso.counter-journal", "iso.counter-journal.new", "iso.counter-clip"] {
         let left = temp.write(&format!("new.{end}"), b"");
         let run = new(&temp.at("new.iso"), "1M", "--from", &list, &[]);
         assert_eq!(run.status, 73, "{}", run.err);
         assert!(run.err.contains(end), "{}", run.err);
         fs::remove_file(left).unwrap();
     }
+    // The longest name that an edit has a journal for.
+    let out = temp.at(&"x".repeat(235));
+    assert_eq!(new(&out, "1M", "--from", &list, &[]).status, 0);
+    done("mkdir", &out, &["fr"]);
+    fs::remove_file(out).unwrap();
     // Where it cannot be made, and a name that has another use.
     assert_eq!(new(&temp.at("nowhere/new.iso"), "1M", "--from", &list, &[]).status, 73);
     assert_eq!(new(&temp.at("x.iso.counter-journal"), "1M", "--from", &list, &[]).status, 64);
@@ -499,6 +585,113 @@ fn what_is_there_stays() {
         assert_eq!(run.status, 0, "{}", run.err);
     }
     assert!(temp.at("here.iso").is_file() && temp.at("there too.iso").is_file());
+}
+
+/// What is no place for a new image is told at once, in a dry run too.
+#[test]
+fn where_it_cannot_be_made() {
+    let temp = Temp::new();
+    let list = temp.write("wishes.txt", LIST);
+    temp.write("x.iso.counter-journal", b"");
+    let before = names(&temp.at(""));
+    let long = |len: usize| "x".repeat(len);
+    let cases = [
+        ("x.iso", 73, "x.iso.counter-journal"),
+        ("x.iso/", 64, "no name of a file"),
+        ("new.iso/.", 64, "no name of a file"),
+        ("", 64, "no name of a file"),
+        (".", 64, "no name of a file"),
+        ("..", 64, "no name of a file"),
+        ("nowhere/new.iso", 73, "no such file"),
+        ("wishes.txt/new.iso", 73, "wishes.txt/new.iso: "),
+        (&long(256), 73, "too long"),
+        (&long(255), 73, "counter-journal: "),
+        (&long(240), 73, "counter-journal: "),
+        (&long(236), 73, "counter-journal.new: "),
+    ];
+    for (out, status, words) in cases {
+        for more in [&[][..], &["--dry-run"]] {
+            let line = ["new", out, "--size=1M", "--code=GCTE", "--from", list.to_str().unwrap()];
+            let mut command = program();
+            command.args(line).args(more).current_dir(temp.at(""));
+            let run: Run = command.output().unwrap().into();
+            assert_eq!(run.status, status, "{out}: {}{}", run.out, run.err);
+            assert!(run.err.contains(words), "{out}: {}", run.err);
+            assert_eq!(names(&temp.at("")), before, "{out}");
+        }
+    }
+}
+
+const NOBODY: u32 = 65534;
+
+unsafe extern "C" {
+    fn geteuid() -> u32;
+}
+
+/// A folder that may not be written to, and a file that may not be read, are told before anything is written. Whoever
+/// may do everything tries it as another user.
+#[test]
+fn what_is_not_allowed() {
+    let temp = Temp::new();
+    let list = temp.write("wishes.txt", LIST);
+    let files = temp.at("files");
+    fs::create_dir(&files).unwrap();
+    let secret = temp.write("files/secret", b"mine");
+    let counter = temp.at("counter");
+    fs::copy(env!("CARGO_BIN_EXE_counter"), &counter).unwrap();
+    let mode = |path: &Path, mode| {
+        fs::set_permissions(path, fs::Permissions::from_mode(mode)).unwrap();
+    };
+    mode(&counter, 0o755);
+    mode(&secret, 0o000);
+    for (folder, from, source, status) in [
+        (0o777, "--from", &list, 0),
+        (0o555, "--from", &list, 73),
+        (0o777, "--from-dir", &files, 77),
+    ] {
+        mode(&temp.at(""), folder);
+        for more in [&["--dry-run"][..], &[]] {
+            let mut command = Command::new(&counter);
+            if unsafe { geteuid() } == 0 {
+                command.uid(NOBODY);
+            }
+            command.arg("new").arg(temp.at("new.iso")).args(["--size", "1M", "--code", "GCTE"]);
+            let run: Run = command.arg(from).arg(source).args(more).output().unwrap().into();
+            assert_eq!(run.status, status, "{}", run.err);
+            assert_eq!(run.err.contains("permission denied"), status != 0, "{}", run.err);
+        }
+        if status == 0 {
+            fs::remove_file(temp.at("new.iso")).unwrap();
+        }
+        assert_eq!(names(&temp.at("")), ["counter", "files", "wishes.txt"]);
+    }
+}
+
+/// Neither the new image nor what a cut left of one is a file of the next.
+#[test]
+fn a_folder_that_holds_a_new_image() {
+    let temp = Temp::new();
+    let folder = tree(&temp);
+    symlink("files/text", temp.at("way")).unwrap();
+    for out in ["files/new.iso", "files/text/de/new.iso", "way/new.iso"] {
+        let run = new(&temp.at(out), "2M", "--from-dir", &folder, &[]);
+        assert_eq!(run.status, 65, "{out}: {}", run.err);
+        assert!(run.err.contains("/files, of which it is made"), "{}", run.err);
+    }
+    let out = temp.at("new.iso");
+    for name in ["counter-new.", "counter-new.1x", "counter-new.17"] {
+        let left = folder.join("text").join(name);
+        fs::write(&left, b"").unwrap();
+        let run = new(&out, "2M", "--from-dir", &folder, &["--dry-run"]);
+        match name {
+            "counter-new.17" => {
+                assert_eq!(run.status, 65, "{}", run.err);
+                assert!(run.err.contains("/files/text/counter-new.17: a name"), "{}", run.err);
+            }
+            _ => assert_eq!(run.status, 0, "{}", run.err),
+        }
+        fs::remove_file(left).unwrap();
+    }
 }
 
 #[test]
@@ -528,6 +721,15 @@ fn wrong_usage() {
         assert!(!out.exists());
     }
     assert_eq!(run(&["new"]).status, 64);
+    // What is missing is told.
+    for (rest, words) in [
+        (&["--code", "GCTE", "--from", list][..], "--size SIZE is missing"),
+        (&["--size", "1M", "--from", list], "--code GAME is missing"),
+        (&["--size", "1M", "--code", "GCTE"], "--from LIST or --from-dir DIR is missing"),
+    ] {
+        let run = on("new", &out, rest);
+        assert!(run.err.contains(words), "{}", run.err);
+    }
 }
 
 // When it is cut --------------------------------------------------------------------------
@@ -611,7 +813,8 @@ fn a_run_that_is_cut_leaves_nothing() {
             SIGBUS => assert_eq!(run.status, 74, "{}", run.err),
             _ => assert_eq!(run.signal, Some(number), "{}", run.err),
         }
-        assert!(!run.err.is_empty() && run.out.is_empty(), "{number}");
+        let words = if number == SIGBUS { "of the new image" } else { "; nothing was made" };
+        assert!(run.err.contains(words) && run.out.is_empty(), "{number}: {}", run.err);
         assert_eq!(names(&temp.at("")), ["log", "wishes.txt"], "{number}");
     }
     // Nobody can tidy up after SIGKILL; but there is no OUT.
@@ -634,6 +837,32 @@ fn go_on(child: Child, mut log: File) -> Run {
     let run = child.wait_with_output().unwrap().into();
     reader.join().unwrap();
     run
+}
+
+/// Those that nobody answers wait until the new image is there; SIGUSR1 to SIGPWR, and the first of real time.
+#[test]
+fn other_signals_wait() {
+    for number in [10, 12, 14, 24, 26, 27, 29, 30, 34] {
+        let temp = Temp::new();
+        let (child, log) = waiting(&temp, "--from", &many(&temp));
+        send(&child, number);
+        let run = go_on(child, log);
+        assert_eq!(run.signal, Some(number), "{}", run.err);
+        let words = format!("signal {number} came meanwhile; the new image is made and synced");
+        assert!(run.err.contains(&words), "{}", run.err);
+        assert!(run.out.ends_with("done: written and synced\n"), "{number}");
+        assert_eq!(names(&temp.at("")), ["log", "new.iso", "wishes.txt"], "{number}");
+    }
+    // Nor is there an edit where the answer cannot be printed.
+    let temp = Temp::new();
+    let mut command = program();
+    command.arg("new").arg(temp.at("new.iso")).args(["--size", "1M", "--code", "GCTE", "--from"]);
+    command.arg(temp.write("wishes.txt", LIST)).stderr(Stdio::piped());
+    command.stdout(File::options().write(true).open("/dev/full").unwrap());
+    let run: Run = command.spawn().unwrap().wait_with_output().unwrap().into();
+    assert_eq!(run.status, 76, "{}", run.err);
+    assert!(run.err.contains("the new image is made and synced, but its answer"), "{}", run.err);
+    assert!(temp.at("new.iso").is_file());
 }
 
 #[test]

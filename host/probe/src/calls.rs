@@ -533,19 +533,22 @@ impl Lender {
         sizes: &[u32],
         paths: &[u8],
     ) -> Answer<()> {
-        let code = Guarded::of(&game_code);
-        let code: &[u8; 4] = code.slice().try_into().unwrap();
-        let (sizes, paths) = (Guarded::of(sizes), Guarded::of(paths));
-        let (sizes, paths) = (sizes.slice(), paths.slice());
-        let [] = self.call(Does::Edit, |lender, _: &mut [u32; 0]| {
+        let mut lent_code = Guarded::of(&game_code);
+        let (lent_sizes, lent_paths) = (Guarded::of(sizes), Guarded::of(paths));
+        let (code, list, texts) = (lent_code.slots(), lent_sizes.slice(), lent_paths.slice());
+        let result = self.call(Does::Edit, |lender, _: &mut [u32; 0]| {
             let (image, words) = (lender.image.slice_mut(), lender.words.slice_mut());
             let bytes = lender.bytes.slice_mut();
             unsafe {
                 call!(counter_master(
-                    mut image, mut words, mut bytes, = code, = disc_end, in sizes, in paths
+                    mut image, mut words, mut bytes, = code, = disc_end, in list, in texts
                 ))
             }
-        })?;
+        });
+        hold(lent_code.margins_stay() && lent_code.slice() == game_code, "game code")?;
+        hold(lent_sizes.margins_stay() && lent_sizes.slice() == sizes, "sizes")?;
+        hold(lent_paths.margins_stay() && lent_paths.slice() == paths, "paths")?;
+        let [] = result?;
         let behind = disc_end as usize;
         hold(self.image.slice().get(behind..) == self.before.get(behind..), "behind the disc end")?;
         self.totals_afresh()?;

@@ -417,6 +417,7 @@ impl State {
             }
         })
     }
+
     // A new master --------------------------------------------------------------------------
 
     fn master(&mut self, mut words: Words) -> Answer<String> {

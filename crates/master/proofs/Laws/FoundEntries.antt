@@ -10,7 +10,7 @@ use Rattle.wish_list.specs.Paths.{names_of}
 use Rattle.wish_list.specs.Tree.{Wish, wishes, common, added, below, entries_from, entries_with, tree_from}
 use Rattle.wish_list.proofs.Laws.Below.{common-less, added-least, length-entries_with}
 use Rattle.wish_list.proofs.Laws.NameTexts.{names_of-named}
-use Rattle.master.specs.Inner.Entries.{front_of, paths_below, paths_with, entry_paths}
+use Rattle.master.proofs.Entries.{front_of, paths_below, paths_with, entry_paths}
 use Rattle.master.proofs.Laws.NewPaths.{length-paths_with}
 use Rattle.master.proofs.Laws.NewPathsFiles.{join-names_of, front-join}
 use Rattle.master.proofs.Laws.Order.{Begins}

@@ -8,7 +8,7 @@ use Rattle.listing.specs.Lines.{path_of}
 use Rattle.listing.proofs.Paths.{path-root}
 use Rattle.wish_list.specs.Tree.{Wish, common, added, below, entries_from, entries_with, tree_from, tree}
 use Rattle.wish_list.proofs.Laws.Below.{AllNamed, common-less, common-most, below-in, below-out, below-zero, below-nil, length-entries_with, length-tree, below-least}
-use Rattle.master.specs.Inner.Entries.{front_of, paths_below, paths_with, entry_paths}
+use Rattle.master.proofs.Entries.{front_of, paths_below, paths_with, entry_paths}
 use Rattle.master.proofs.Laws.Parents.{front-more, front-shared, Around, around-later, around-path}
 
 -- ---- entries and paths that stand one behind the other

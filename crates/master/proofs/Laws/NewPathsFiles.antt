@@ -9,7 +9,7 @@ use Rattle.wish_list.specs.Paths.{names_of}
 use Rattle.wish_list.specs.Tree.{Wish, wishes, common, added, below, entries_from, entries_with, tree_from, tree}
 use Rattle.wish_list.proofs.Laws.Below.{AllNamed, common-less, below-nil, below-zero, length-entries_with, length-tree}
 use Rattle.wish_list.proofs.Laws.NameTexts.{wishes-named}
-use Rattle.master.specs.Inner.Entries.{front_of, paths_below, paths_with, entry_paths}
+use Rattle.master.proofs.Entries.{front_of, paths_below, paths_with, entry_paths}
 use Rattle.master.specs.Theorem.{FileSeen, file_seen, files_from, files_in, files_wished}
 use Rattle.master.proofs.Laws.NewPaths.{Stands, HasPaths, stands-left, stands-right, paths-left, paths-right, length-paths_with, tree-stands, tree-paths}
 use Rattle.master.proofs.Laws.OrderNames.{joined-behind}

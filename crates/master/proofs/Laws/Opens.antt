@@ -28,7 +28,7 @@ use Rattle.placement.proofs.Laws.Regions.{placed-passes}
 use Rattle.placement.proofs.Laws.Offsets.{length-offsets_of, offsets-below}
 use Rattle.master.specs.Master.{Master, nodes_at, nodes_of_master, table_size, first_free, before_place, master_verdict, written_master}
 use Rattle.master.specs.Theorem.{IsGranted, NewMasterOpens}
-use Rattle.master.proofs.Laws.Written.{Fits, good, length-new, fst-offset-new, disc-end-new, table-end-new, table-new, program-new, program_behind-new, zero-new, behind-new}
+use Rattle.master.proofs.Laws.Written.{Fits, good, length-new, header-new, fst-offset-new, disc-end-new, table-end-new, table-new, program-new, program_behind-new, zero-new, behind-new}
 
 -- ---- what a granted list has passed
 
@@ -175,7 +175,9 @@ new-master-opens m image words bytes g =
     record {
       opens = opens-new m image words bytes g;
       tree = nodes-new m image words bytes g;
+      header = header-new m image f;
       end = disc-end-new m image f;
+      table = table-end-new m image f;
       placed = placed m (length image) words bytes g.granted;
       zero = zero-new m image f;
       behind = behind-new m image f;

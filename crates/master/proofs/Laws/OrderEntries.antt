@@ -13,7 +13,7 @@ use Rattle.wish_list.proofs.Laws.Below.{common-less}
 use Rattle.wish_list.proofs.Laws.Sound.{AllGoodNames, good-rest}
 use Rattle.wish_list.proofs.Laws.NameTexts.{names_of-named}
 use Rattle.wish_list.proofs.Laws.AcceptedPaths.{HasPassed, HaveAllPassed, names_of-good}
-use Rattle.master.specs.Inner.Entries.{front_of, paths_below, paths_with, entry_paths}
+use Rattle.master.proofs.Entries.{front_of, paths_below, paths_with, entry_paths}
 use Rattle.master.proofs.Laws.Order.{Begins, below-trans, below-longer, below-front}
 use Rattle.master.proofs.Laws.Parents.{front-more}
 use Rattle.master.proofs.Laws.NewPathsFiles.{join-names_of, front-join}

@@ -9,7 +9,7 @@ use Rattle.endian.specs.Bytes.{are_same_bytes}
 use Rattle.endian.specs.Laws.Stored.{same_refl}
 use Rattle.wish_list.specs.Paths.{names_of}
 use Rattle.wish_list.specs.Tree.{common}
-use Rattle.master.specs.Inner.Entries.{front_of}
+use Rattle.master.proofs.Entries.{front_of}
 use Rattle.master.proofs.Laws.Order.{Begins}
 
 abbrev pub joined : List (List ℕ) → List ℕ

@@ -10,7 +10,7 @@ use Rattle.tree.proofs.Laws.Nesting.{ended, parent_is}
 use Rattle.listing.specs.Lines.{ending, path_of}
 use Rattle.listing.proofs.Paths.{path-step}
 use Rattle.wish_list.specs.Tree.{Wish, common, below}
-use Rattle.master.specs.Inner.Entries.{front_of}
+use Rattle.master.proofs.Entries.{front_of}
 
 -- ---- the first names of a path
 

@@ -14,7 +14,7 @@ use Rattle.wish_list.specs.Tree.{Wish, wishes, tree_from, tree}
 use Rattle.wish_list.proofs.Order.{below-itself}
 use Rattle.wish_list.proofs.Laws.NameTexts.{wishes-named}
 use Rattle.wish_list.proofs.Laws.AcceptedPaths.{HaveAllPassed}
-use Rattle.master.specs.Inner.Entries.{entry_paths}
+use Rattle.master.proofs.Entries.{entry_paths}
 use Rattle.master.proofs.Laws.NewPaths.{entries-paths-length, path_of-tree}
 use Rattle.master.proofs.Laws.Order.{Begins, begins-test, begins-self, begins-trans, below-not_behind}
 use Rattle.master.proofs.Laws.OrderEntries.{rise-at, unused-at, entries-rise, paths-rise}

@@ -13,7 +13,7 @@ use Rattle.wish_list.specs.Tree.{Wish, wishes, tree_from, tree}
 use Rattle.wish_list.proofs.Laws.AcceptedPaths.{HaveAllPassed, IsAccepted, list-accepted, accepted-sound}
 use Rattle.placement.specs.Placement.{offsets_of}
 use Rattle.placement.proofs.Laws.Offsets.{offsets-below}
-use Rattle.master.specs.Inner.Entries.{entry_paths}
+use Rattle.master.proofs.Entries.{entry_paths}
 use Rattle.master.specs.Master.{Master, first_free, nodes_of_master}
 use Rattle.master.specs.Theorem.{IsGranted, IsFirstBelow, IsFound, TreeIsWishList, EachIsFound}
 use Rattle.master.proofs.Laws.Opens.{passed, placeable}

@@ -2,8 +2,8 @@
 use Rattle.std.specs.Prelude.{ℕ, ◌+◌, ◌^◌, ◌<◌, ◌≤◌, ◌≡◌, refl, List, length, get_or, replicate, Ok, None, Bool, true, false, cond, zero, suc}
 use Rattle.std.proofs.Common.{ap, ◌∙◌, arith, zero-add}
 use Rattle.std.proofs.lemmas.List.{length-replicate}
-use Rattle.endian.specs.Bytes.{be32, put}
-use Rattle.endian.specs.Laws.Stored.{length-put, put-before, put-after, put_in, be32-same, span-put}
+use Rattle.endian.specs.Bytes.{be32, put, span}
+use Rattle.endian.specs.Laws.Stored.{length-put, put-before, put-after, put_in, be32-same, span-put, span_ext}
 use Rattle.header.specs.declared.value.DiscHeader.{DiscHeader}
 use Rattle.header.specs.Verdicts.{gcn_magic, dol_offset, fst_offset, fst_size, user_size, disc_size, disc_end, table_end}
 use Rattle.header.specs.Header.{blank_header, header_of, put_header}
@@ -99,6 +99,39 @@ module _ (m : Master) (image : List ℕ) (f : Fits m image) where
 
   read : header_of head ≡ h
   read = read-write h sized blank whole
+
+  byte-stays : (at : ℕ) → at < 0x440 → get_or new at 0 ≡ get_or head at 0
+  byte-stays at l = put-before head 0x440 tab table-fits at l
+
+  span-stays : (at n : ℕ) → at + n ≤ 0x440 → span new at n ≡ span head at n
+  span-stays at n l = span_ext new head at n (omega (arith, length-new, f.table, f.room)) (omega (arith, length-head, f.table, f.room)) (λ i b. byte-stays (at + i) (omega arith))
+
+  pub header-new : header_of new ≡ h
+  unfolding header_of
+  header-new =
+      (λ i. record {
+        game_code = span-stays 0 4 (omega arith) i;
+        maker_code = span-stays 4 2 (omega arith) i;
+        disc_id = byte-stays 6 (omega arith) i;
+        version = byte-stays 7 (omega arith) i;
+        audio_streaming = byte-stays 8 (omega arith) i;
+        stream_buffer_size = byte-stays 9 (omega arith) i;
+        unused_00a = span-stays 0x0A 14 (omega arith) i;
+        wii_magic = word-stays 0x18 (omega arith) i;
+        gcn_magic = word-stays 0x1C (omega arith) i;
+        game_name = span-stays 0x20 0x3E0 (omega arith) i;
+        debug_monitor_offset = word-stays 0x400 (omega arith) i;
+        debug_monitor_addr = word-stays 0x404 (omega arith) i;
+        unused_408 = span-stays 0x408 0x18 (omega arith) i;
+        dol_offset = word-stays 0x420 (omega arith) i;
+        fst_offset = word-stays 0x424 (omega arith) i;
+        fst_size = word-stays 0x428 (omega arith) i;
+        fst_max_size = word-stays 0x42C (omega arith) i;
+        user_position = word-stays 0x430 (omega arith) i;
+        user_size = word-stays 0x434 (omega arith) i;
+        disc_size = word-stays 0x438 (omega arith) i;
+        unused_43c = word-stays 0x43C (omega arith) i;
+      }) ∙ read
 
   pub good : GoodHeader new
   unfolding header_of header_with blank_header

@@ -23,7 +23,7 @@ use Rattle.space.specs.Used.{total_size}
 use Rattle.space.specs.Totals.{totals_verdict}
 use Rattle.executable.specs.Program.{program_of, program_in, own_region, program_behind}
 use Rattle.header.specs.Fields.{fields}
-use Rattle.header.specs.Header.{put_fields, field_bytes, blank_header}
+use Rattle.header.specs.Header.{header_of, put_fields, field_bytes, blank_header}
 use Rattle.listing.specs.Lines.{path_of}
 use Rattle.space.specs.Align.{align_up}
 use Rattle.wish_list.specs.Paths.{paths_in, path_verdict, paths_verdict, list_verdict}
@@ -222,7 +222,10 @@ opened = new-master-opens small lent 32 0x52 granted
 pub record Opened : Type 0 where
   pub opens : opening written 32 ≡ Ok tt
   pub tree : nodes_in written ≡ nested_tree 0 0 0x8000 3
+  -- the header as it was wished for: game code, FST offset, and no program and no maximum
+  pub header : ((header_of written).game_code ≡ small.game_code) × ((header_of written).dol_offset ≡ 0) × ((header_of written).fst_offset ≡ 0x440) × ((header_of written).fst_max_size ≡ 0) × ((header_of written).user_size ≡ 0x8003)
   pub end : disc_end written ≡ 0x8003
+  pub table : table_end written ≡ 0x492
   -- `d` is placed behind the table, and its last byte is the disc's
   pub placed : (0x492 ≤ 0x8000) × (0x8000 + 3 ≤ 0x8003)
   -- the first byte behind the table, and the last of `d`
@@ -231,12 +234,15 @@ pub record Opened : Type 0 where
   pub length : length written ≡ 0x8005
 
 pub opened-worked : Opened
+unfolding header_with blank_header
 opened-worked =
     let p : IsPlaced 0x492 0x8003 (0 ∷ 3 ∷ 0 ∷ []) (0 ∷ 0x8000 ∷ 0 ∷ []) = rw (small-free, small-offsets) at opened.placed in
     record {
       opens = opened.opens;
       tree = opened.tree ∙ small-tree;
+      header = rw opened.header (refl, refl, refl, refl, refl);
       end = opened.end;
+      table = opened.table ∙ small-free;
       placed = (p.behind 1 (omega arith), p.within 1 (omega arith));
       zero = (opened.zero 0x492 (omega (arith, small-free)) (omega arith), opened.zero 0x8002 (omega (arith, small-free)) (omega arith));
       behind = (opened.behind 0x8003 (omega arith), opened.behind 0x8004 (omega arith));

@@ -94,6 +94,8 @@ pub record Ordered : Type 0 where
   pub case : list_verdict (0x41 ∷ 0 ∷ 0x61 ∷ 0 ∷ []) 2 ≡ Ok tt
   -- path by path: `a`, `a`, `\` is 19, and `\`, `a`, `a` is 13
   pub path-by-path : (list_verdict (0x61 ∷ 0 ∷ 0x61 ∷ 0 ∷ 0x5C ∷ 0 ∷ []) 3 ≡ Err AlreadyExists) × (list_verdict (0x5C ∷ 0 ∷ 0x61 ∷ 0 ∷ 0x61 ∷ 0 ∷ []) 3 ≡ Err UnsafeName)
+  -- within a path 12 and 9 come before 19: `b`, 0x01; `b`, `a` 1,025 times
+  pub within-a-path : (list_verdict (0x62 ∷ 0 ∷ 0x01 ∷ 0 ∷ []) 2 ≡ Err InvalidNameByte) × (list_verdict (0x62 ∷ 0 ∷ (replicate 1025 0x61 ++ (0 ∷ []))) 2 ≡ Err LimitOrMemory)
   pub number : number_of AlreadyExists ≡ 19
 
 pub ordered : Ordered
@@ -108,6 +110,7 @@ ordered = record {
   high = (refl, refl);
   case = refl;
   path-by-path = (refl, refl);
+  within-a-path = (refl, refl);
   number = refl;
 }
 

@@ -1,6 +1,6 @@
 -- `Master::judge` meets its contract. Assumes nothing.
 use Rattle.std.specs.Prelude.{Ok, ◌≡◌, ◌+◌, true, false, []}
-use Rattle.std.proofs.Common.{arith, sym, ◌∙◌}
+use Rattle.std.proofs.Common.{arith, sym}
 use Rattle.std.proofs.lemmas.Result.{err_from_is_err_and}
 use Rattle.tree.specs.Table.{limits}
 use Rattle.placement.specs.Placement.{is_placeable}
@@ -39,28 +39,28 @@ overflow_add-size c =
     let n : Few m c.args.words = few m c.args.words c.in_ok-list.ensures.accepted limited in
     omega (arith, n.table)
 
-pub is_placeable-has_place-requires-clause-table : goal.is_placeable-has_place-requires-clause-table
-is_placeable-has_place-requires-clause-table c =
+pub is_placeable-requires-clause-table : goal.is_placeable-requires-clause-table
+is_placeable-requires-clause-table c =
     let m = master_of c.args.self in
     let limited : limits (nodes_at m []) c.args.words ≡ Ok tt = rw (c.in_ok-list.ensures.paths, c.in_ok-list.ensures.sizes) at c.in_ok-table.ensures.ok in
     let size : c.size-size.result ≡ table_size m = rw (c.in_ok-table.ensures.list, c.in_ok-table.ensures.sizes, c.in_ok-list.ensures.paths, c.in_ok-list.ensures.sizes) at c.size-size.ensures in
     let n : Few m c.args.words = few m c.args.words c.in_ok-list.ensures.accepted limited in
     omega (arith, n.table)
 
-pub is_placeable-has_place-requires-clause-files : goal.is_placeable-has_place-requires-clause-files
-is_placeable-has_place-requires-clause-files c =
+pub is_placeable-requires-clause-files : goal.is_placeable-requires-clause-files
+is_placeable-requires-clause-files c =
     let m = master_of c.args.self in
     let limited : limits (nodes_at m []) c.args.words ≡ Ok tt = rw (c.in_ok-list.ensures.paths, c.in_ok-list.ensures.sizes) at c.in_ok-table.ensures.ok in
     let size : c.size-size.result ≡ table_size m = rw (c.in_ok-table.ensures.list, c.in_ok-table.ensures.sizes, c.in_ok-list.ensures.paths, c.in_ok-list.ensures.sizes) at c.size-size.ensures in
     let n : Few m c.args.words = few m c.args.words c.in_ok-list.ensures.accepted limited in
     n.files
 
-pub returns-then-not-has_place-clause-refused : goal.returns-then-not-has_place-clause-refused
-returns-then-not-has_place-clause-refused c =
+pub returns-then-not-is_placeable-clause-refused : goal.returns-then-not-is_placeable-clause-refused
+returns-then-not-is_placeable-clause-refused c =
     let m = master_of c.args.self in
     let limited : limits (nodes_at m []) c.args.words ≡ Ok tt = rw (c.in_ok-list.ensures.paths, c.in_ok-list.ensures.sizes) at c.in_ok-table.ensures.ok in
     let size : c.size-size.result ≡ table_size m = rw (c.in_ok-table.ensures.list, c.in_ok-table.ensures.sizes, c.in_ok-list.ensures.paths, c.in_ok-list.ensures.sizes) at c.size-size.ensures in
-    let placed : is_placeable (0x440 + c.size-size.result) c.args.self.disc_end c.args.self.sizes.now ≡ false = sym c.is_placeable-has_place.ensures ∙ c.if-not-has_place.true in
+    let placed : is_placeable (0x440 + c.size-size.result) c.args.self.disc_end c.args.self.sizes.now ≡ false = sym c.if-not-is_placeable.ensures in
     refused-place m c.args.room c.args.words c.args.bytes c.in_ok-list.ensures.accepted limited (omega arith) (omega arith) (rw size at placed)
 
 pub returns-clause-granted : goal.returns-clause-granted
@@ -68,5 +68,5 @@ returns-clause-granted c =
     let m = master_of c.args.self in
     let limited : limits (nodes_at m []) c.args.words ≡ Ok tt = rw (c.in_ok-list.ensures.paths, c.in_ok-list.ensures.sizes) at c.in_ok-table.ensures.ok in
     let size : c.size-size.result ≡ table_size m = rw (c.in_ok-table.ensures.list, c.in_ok-table.ensures.sizes, c.in_ok-list.ensures.paths, c.in_ok-list.ensures.sizes) at c.size-size.ensures in
-    let placed : is_placeable (0x440 + c.size-size.result) c.args.self.disc_end c.args.self.sizes.now ≡ true = sym c.is_placeable-has_place.ensures ∙ c.if-not-has_place.false in
+    let placed : is_placeable (0x440 + c.size-size.result) c.args.self.disc_end c.args.self.sizes.now ≡ true = sym c.if-not-is_placeable.ensures in
     granted m c.args.room c.args.words c.args.bytes c.in_ok-list.ensures.accepted limited (omega arith) (omega arith) (rw size at placed)

@@ -18,7 +18,7 @@ loop-i-preserved c =
     let in_b : c.loop-i.i < length b = omega (arith, c.min-i-end.ensures, c.loop-i-test.true) in
     let in_p : c.loop-i.i < length p = omega (arith, c.min-i-end.ensures, c.loop-i-test.true) in
     elim c.if-path-i-eq47.branch [
-      | then-path-i-eq47 w ↦ rw w.shared-is (sharing-slash b p c.loop-i.i c.loop-i.shared c.loop-i.invariant in_b in_p (c.loop-i.i + 1) (omega arith) c.if-before-i.false w.if-path-i-eq47.true)
+      | then-path-i-eq47 w ↦ sharing-slash b p c.loop-i.i c.loop-i.shared c.loop-i.invariant in_b in_p (c.loop-i.i + 1) c.if-path-i-eq47.shared (omega arith) (omega (arith, w.shared-is)) c.if-before-i.false w.if-path-i-eq47.true
       | else-path-i-eq47 w ↦ rw w.shared-is (sharing-more b p c.loop-i.i c.loop-i.shared c.loop-i.invariant in_b in_p (c.loop-i.i + 1) (omega arith) c.if-before-i.false w.if-path-i-eq47.false)
     ]
 

@@ -1,7 +1,7 @@
 -- `new_table::measured::NewTable::write` meets its contract: the draft is valid and reads as the tree, and is written anew with its parents.
 use Rattle.std.proofs.Common.{◌≡◌, ◌+◌, ◌*◌, take, arith}
 use Rattle.tree.specs.Table.{nodes_of}
-use Rattle.new_table.specs.Trees.{tree_of}
+use Rattle.wish_list.specs.Tree.{tree_of}
 use Rattle.new_table.proofs.Fitted.{fitting}
 use Rattle.new_table.proofs.Written.{draft-valid, draft-reads, size-placed}
 use Rattle.new_table.proofs.measured.NewTable.write.Goals as goal

@@ -1,2 +1,0 @@
--- Definitions that only inner contracts and laws need.
-pub mod Entries
