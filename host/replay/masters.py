@@ -7,6 +7,8 @@ import struct
 
 CLUSTER, TABLE = 0x8000, 0x440
 CODE = b"GCLE"
+# Any four bytes are a game code.
+OTHER_CODE = b"\0\xff\x80Z"
 
 
 def whole(size):
@@ -66,11 +68,11 @@ def offsets_of(files, end):
     return offsets
 
 
-def master(image, disc_end, files):
+def master(image, code, disc_end, files):
     size = len(table_of(files, [0] * len(files)))
     table = table_of(files, offsets_of(files, TABLE + size))
     new = bytearray(disc_end)
-    new[:4] = CODE
+    new[:4] = code
     struct.pack_into(">I", new, 0x1C, 0xC2339F3D)
     struct.pack_into(">II", new, 0x424, TABLE, size)
     struct.pack_into(">I", new, 0x434, disc_end)
@@ -88,6 +90,7 @@ def checksum(image):
 class Script:
     def __init__(self):
         self.image = b""
+        self.code = CODE
 
     def heading(self, text):
         print("#", text)
@@ -103,8 +106,8 @@ class Script:
     def call(self, disc_end, sizes, paths, number, why):
         """A call with paths as they are given, with their zero bytes; accepted where number is 0."""
         if number == 0:
-            self.image = master(self.image, disc_end, list(zip(paths.split(b"\0"), sizes)))
-        words = [f"{disc_end:#x}", "0x" + CODE.hex(), *map(hex, sizes), ":" + paths.hex()]
+            self.image = master(self.image, self.code, disc_end, list(zip(paths.split(b"\0"), sizes)))
+        words = [f"{disc_end:#x}", "0x" + self.code.hex(), *map(hex, sizes), ":" + paths.hex()]
         print(f"master {' '.join(words)} = {number} {checksum(self.image):#x}  # rules: {why}")
 
     def files(self, disc_end, files, number, why):
@@ -126,7 +129,9 @@ def main():
     s.files(0x44B, [], 21, "the table ends a byte behind the disc end")
     s.files(0x44C, [], 0, "header and table fill the disc")
     s.listing("total 1100 used 1100\nd 0 0 1 /\n")
-    s.files(0x44D, [], 0, "a byte of it is free")
+    s.code = OTHER_CODE
+    s.files(0x44D, [], 0, "a byte of it is free; another game code")
+    s.code = CODE
     s.files(0x450, [], 0, "the whole buffer")
     s.files(0x451, [], 9, "the buffer is shorter than the disc end")
     s.files(0xFFFFFFFF, [], 9, "the buffer is shorter than the disc end")
