@@ -21,7 +21,7 @@ pub extern "C" fn counter_master(
 ) -> u32
     ensures answer { let asked = wished game_code.now disc_end sizes.now paths.now in
         result ≡ number_told
-            (master_verdict asked (length image.old) (length words.old) (length bytes.old)) }
+        (master_verdict asked (length image.old) (length words.old) (length bytes.old)) }
     ensures image_after { let asked = wished game_code.now disc_end sizes.now paths.now in
         image.new ≡ image_with_master asked image.old (length words.old) (length bytes.old) }
     ensures words_zero { words.new ≡ zeros words.old }

@@ -1,7 +1,8 @@
 -- Where the files of a new master lie (RULES, A new master): the file whose last cluster has the largest unused rest lies last, the
 -- others from the first cluster behind the table on, in list order, each in clusters of its own; an empty file has offset 0. (Of
 -- equal rests the first file is taken.) Assumes nothing: these are definitions.
-use Rattle.std.specs.Prelude.{ℕ, zero, suc, ◌+◌, ◌-◌, max, Bool, true, ◌&&◌, List, [], ◌∷◌, if◌then◌else◌, ◌==◌, nat_le}
+use Rattle.std.specs.Prelude.{ℕ, zero, suc, ◌+◌, ◌-◌, max, Bool, List, [], ◌∷◌, if◌then◌else◌, ◌==◌, nat_le}
+use Rattle.std.specs.List.{list_all}
 use Rattle.space.specs.Align.{align_up}
 
 -- a size rounded up to whole clusters, and what of the last one is not used
@@ -20,8 +21,7 @@ largest_rest [] = 0
 largest_rest (size ∷ sizes) = max (unused_rest size) (largest_rest sizes)
 
 unfoldable pub are_all_empty : List ℕ → Bool
-are_all_empty [] = true
-are_all_empty (size ∷ sizes) = size == 0 && are_all_empty sizes
+are_all_empty sizes = list_all (λ size. size == 0) sizes
 
 -- the least disc end: where no file has a byte, the end t of the table
 unfoldable pub least_end : ℕ → List ℕ → ℕ
