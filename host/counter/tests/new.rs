@@ -638,7 +638,9 @@ fn what_is_not_allowed() {
     fs::create_dir(&files).unwrap();
     let secret = temp.write("files/secret", b"mine");
     let counter = temp.at("counter");
-    fs::copy(env!("CARGO_BIN_EXE_counter"), &counter).unwrap();
+    // Not by fs::copy: a child that another test starts meanwhile would hold the copy open, and none could run it.
+    let copied = Command::new("cp").arg(env!("CARGO_BIN_EXE_counter")).arg(&counter).status();
+    assert!(copied.unwrap().success());
     let mode = |path: &Path, mode| {
         fs::set_permissions(path, fs::Permissions::from_mode(mode)).unwrap();
     };
