@@ -529,7 +529,9 @@ fn sums_and_edits_are_done_where_no_thread_can_be_had() {
     let stage = Stage::new();
     let image = stage.reset();
     let counter = stage.temp.at("counter");
-    fs::copy(env!("CARGO_BIN_EXE_counter"), &counter).unwrap();
+    // Not by fs::copy: a child that another test starts meanwhile would hold the copy open, and none could run it.
+    let copied = Command::new("cp").arg(env!("CARGO_BIN_EXE_counter")).arg(&counter).status();
+    assert!(copied.unwrap().success());
     for (path, mode) in [(&counter, 0o755), (&image, 0o666), (&stage.temp.at(""), 0o777)] {
         fs::set_permissions(path, Permissions::from_mode(mode)).unwrap();
     }
