@@ -10,8 +10,6 @@ use Rattle.refusal.specs.declared.Refusal.{Refusal}
 use Rattle.header.specs.declared.value.DiscHeader.{DiscHeader}
 use Rattle.header.specs.Header.{put_header}
 use Rattle.tree.specs.Table.{encode}
-use Rattle.wish_list.specs.Paths.{paths_in}
-use Rattle.wish_list.proofs.Laws.NameTexts.{encode-length-placed}
 use Rattle.placement.specs.Placement.{least_end, offsets_of}
 use Rattle.placement.proofs.Laws.Exactly.{is_placeable-least_end}
 use Rattle.placement.proofs.Laws.Offsets.{length-offsets_of}
@@ -50,10 +48,6 @@ tail-put s at bs h =
 -- the offsets stand in front of the words
 pub offsets-front : (m : Master) (rest : List ℕ) → take (length m.sizes) (offsets_of (first_free m) m.sizes ++ rest) ≡ offsets_of (first_free m) m.sizes
 offsets-front m rest = rw (← length-offsets_of (first_free m) m.sizes) (take-append_seam (offsets_of (first_free m) m.sizes) rest)
-
--- the table with these offsets has the size that was measured
-pub table-sized : (m : Master) → length (encode (nodes_at m (offsets_of (first_free m) m.sizes))) ≡ table_size m
-table-sized m = encode-length-placed (paths_in m.paths) m.sizes (offsets_of (first_free m) m.sizes) m.sizes []
 
 -- the image in its parts
 pub in-parts : (m : Master) (image : List ℕ) → put (put_header (header_of_master m) (put image 0 (replicate m.disc_end 0))) 0x440 (encode (nodes_at m (offsets_of (first_free m) m.sizes))) ≡ written_master m image

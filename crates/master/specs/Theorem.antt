@@ -62,15 +62,18 @@ pub record IsFirstBelow (nodes : List Node) (d f : ℕ) : Type 0 where
   pub behind : d < f
   pub inside : f < next_of (slice_index_or nodes d empty_root)
   pub file : is_directory (slice_index_or nodes f empty_root) ≡ false
-  pub between : (j : ℕ) → d ≤ j → j < f → (is_directory (slice_index_or nodes j empty_root) ≡ true) × (starts_with nat_eq (path_of nodes f) (path_of nodes j) ≡ true)
+  pub between : (j : ℕ) → d ≤ j → j < f →
+      (is_directory (slice_index_or nodes j empty_root) ≡ true) × (starts_with nat_eq (path_of nodes f) (path_of nodes j) ≡ true)
   -- no file before the directory has a path through it
-  pub before : (j : ℕ) → j < d → is_directory (slice_index_or nodes j empty_root) ≡ false → starts_with nat_eq (path_of nodes j) (path_of nodes d) ≡ false
+  pub before : (j : ℕ) → j < d → is_directory (slice_index_or nodes j empty_root) ≡ false →
+      starts_with nat_eq (path_of nodes j) (path_of nodes d) ≡ false
 
 pub record IsWishTree (paths : List (List ℕ)) (sizes : List ℕ) (nodes : List Node) : Type 0 where
   -- path and size of each file, in table order, are the wish list
   pub files : files_in nodes ≡ files_wished paths sizes
   -- each directory is there for a file, and stands just before its first one
-  pub directories : (d : ℕ) → 0 < d → d < length nodes → is_directory (slice_index_or nodes d empty_root) ≡ true → (f : ℕ) × IsFirstBelow nodes d f
+  pub directories : (d : ℕ) → 0 < d → d < length nodes → is_directory (slice_index_or nodes d empty_root) ≡ true →
+      (f : ℕ) × IsFirstBelow nodes d f
   -- entries of one directory differ in their names
   pub siblings : (j k : ℕ) → 0 < j → j < length nodes → 0 < k → k < length nodes → parent_of nodes j ≡ parent_of nodes k →
       name_of (slice_index_or nodes j empty_root) ≡ name_of (slice_index_or nodes k empty_root) → j ≡ k
@@ -84,13 +87,16 @@ pub record IsFound (nodes : List Node) (path : List ℕ) (offset size : ℕ) : T
 
 -- THEOREM
 abbrev pub TreeIsWishList : Type 0
-TreeIsWishList = (m : Master) (room words bytes : ℕ) → IsGranted m room words bytes → IsWishTree (paths_in m.paths) m.sizes (nodes_of_master m)
+TreeIsWishList =
+    (m : Master) (room words bytes : ℕ) → IsGranted m room words bytes →
+    IsWishTree (paths_in m.paths) m.sizes (nodes_of_master m)
 
 -- THEOREM
 abbrev pub EachIsFound : Type 0
 EachIsFound =
     (m : Master) (room words bytes : ℕ) → IsGranted m room words bytes → (i : ℕ) → i < length m.sizes →
-    IsFound (nodes_of_master m) (slice_index_or (paths_in m.paths) i []) (slice_index (offsets_of (first_free m) m.sizes) i) (slice_index m.sizes i)
+    IsFound (nodes_of_master m) (slice_index_or (paths_in m.paths) i [])
+    (slice_index (offsets_of (first_free m) m.sizes) i) (slice_index m.sizes i)
 
 -- ---- 21
 
@@ -98,8 +104,10 @@ EachIsFound =
 abbrev pub RefusedExactly : Type 0
 RefusedExactly =
     (m : Master) (room words bytes : ℕ) → before_place m room words bytes ≡ Ok tt →
-    (master_verdict m room words bytes ≡ Err NotEnoughSpace → (offsets : List ℕ) → IsPlaced (first_free m) m.disc_end m.sizes offsets → ⊥) ×
-    (((offsets : List ℕ) → IsPlaced (first_free m) m.disc_end m.sizes offsets → ⊥) → master_verdict m room words bytes ≡ Err NotEnoughSpace)
+    (master_verdict m room words bytes ≡ Err NotEnoughSpace →
+    (offsets : List ℕ) → IsPlaced (first_free m) m.disc_end m.sizes offsets → ⊥) ×
+    (((offsets : List ℕ) → IsPlaced (first_free m) m.disc_end m.sizes offsets → ⊥) →
+    master_verdict m room words bytes ≡ Err NotEnoughSpace)
 
 -- ---- the image
 
@@ -121,10 +129,14 @@ pub record IsOpenedAs (m : Master) (words : ℕ) (image new : List ℕ) : Type 0
 
 -- THEOREM
 abbrev pub NewMasterOpens : Type 0
-NewMasterOpens = (m : Master) (image : List ℕ) (words bytes : ℕ) → IsGranted m (length image) words bytes → IsOpenedAs m words image (written_master m image)
+NewMasterOpens =
+    (m : Master) (image : List ℕ) (words bytes : ℕ) → IsGranted m (length image) words bytes →
+    IsOpenedAs m words image (written_master m image)
 
 -- THEOREM: any list of edits on a new master, as on any image that opens
 abbrev pub AnyListFollows : Type 0
 AnyListFollows =
-    (m : Master) (image : List ℕ) (words bytes w : ℕ) (calls : List Call) → AllBytes image → IsGranted m (length image) words bytes → words ≤ w → AllWithin w calls →
-    LedgerHolds w (written_master m image) (image_after_all calls (written_master m image)) (ledger_after (reports_of calls (written_master m image)) (first_ledger (written_master m image)))
+    (m : Master) (image : List ℕ) (words bytes w : ℕ) (calls : List Call) →
+    AllBytes image → IsGranted m (length image) words bytes → words ≤ w → AllWithin w calls →
+    let new : List ℕ = written_master m image in
+    LedgerHolds w new (image_after_all calls new) (ledger_after (reports_of calls new) (first_ledger new))

@@ -7,7 +7,8 @@ ghost use Rattle.header.specs.Header.{put_header};
 ghost use Rattle.opened.specs.Opening.{zeros};
 ghost use Rattle.master.specs.Master.{header_with, master_verdict, written_master, image_with_master};
 ghost use Rattle.master.specs.Asked.{wished, master_of};
-ghost use Rattle.master.specs.Theorem.{TreeIsWishList, EachIsFound, RefusedExactly, NewMasterOpens, AnyListFollows};
+ghost use Rattle.master.specs.Theorem.{TreeIsWishList, EachIsFound, RefusedExactly};
+ghost use Rattle.master.specs.Theorem.{NewMasterOpens, AnyListFollows};
 
 use header::{DiscHeader, HEADER_LEN};
 use new_table::NewTable;
@@ -19,6 +20,7 @@ use wish_list::WishList;
 #[derive(Clone, Copy, PartialEq, Eq, Debug)]
 pub struct Master<'a> {
     /// The game code, the first four bytes of the disc.
+    // Kept: an array: the header has four bytes for it (C).
     pub game_code: [u8; 4],
     /// The disc end in bytes, which is the header's user size.
     pub disc_end: u32,
@@ -34,8 +36,8 @@ fn write_blank(image: &mut [u8], game_code: [u8; 4], disc_end: u32, table_size: 
     requires header { 0x440 ≤ disc_end }
     requires room { disc_end ≤ length image.old }
     ensures answer { result ≡ Ok tt }
-    ensures image_after { image.new
-        ≡ put_header (header_with game_code disc_end table_size) (put image.old 0 (replicate disc_end 0)) }
+    ensures image_after { let blank = put image.old 0 (replicate disc_end 0) in
+        image.new ≡ put_header (header_with game_code disc_end table_size) blank }
 {
     endian::fill(image, 0, disc_end as usize, 0);
     let header = DiscHeader {
@@ -49,7 +51,8 @@ fn write_blank(image: &mut [u8], game_code: [u8; 4], disc_end: u32, table_size: 
 }
 
 impl<'a> Master<'a> {
-    // The table of a list that is granted, where so many bytes of an image, words and working bytes are lent.
+    // The table of a list that is granted, where so many bytes of an image, words and working bytes are
+    // lent.
     fn judge(self, room: usize, words: usize, bytes: usize) -> Result<NewTable<'a>, Refusal>
         ensures granted { let master = master_of self.entry in
             OnOk result (master_verdict master room words bytes ≡ Ok tt) }
@@ -61,18 +64,20 @@ impl<'a> Master<'a> {
         let list = WishList::new(self.paths, self.sizes)?;
         let table = NewTable::measure(&list, words)?;
         let size = table.size();
+        let table_end = (HEADER_LEN + size) as u32;
         if bytes < size || room < self.disc_end as usize {
             return Err(Refusal::LimitOrMemory);
         }
-        if !placement::is_placeable(HEADER_LEN + size, self.disc_end, self.sizes) {
+        if !placement::is_placeable(table_end, self.disc_end, self.sizes) {
             return Err(Refusal::NotEnoughSpace);
         }
         Ok(table)
     }
 }
 
-// Writes the image of a list that is granted. The offsets go into the words, a draft of the table into the bytes.
-// Kept: one by one: that the disc end fits 4 bytes the proof knows of a parameter, and not of a field (P).
+// Writes the image of a list that is granted. The offsets go into the words, a draft of the table into the
+// bytes.
+// Kept: one by one: that the disc end fits 4 bytes the proof knows of a parameter, not of a field (P).
 fn write_granted(
     image: &mut [u8],
     game_code: [u8; 4],
@@ -81,29 +86,32 @@ fn write_granted(
     words: &mut [u32],
     bytes: &mut [u8],
 ) -> Verdict
-    requires { let asked = wished game_code disc_end table.now.sizes.now table.now.paths.now in
+    requires { let list = table.now in
+        let asked = wished game_code disc_end list.sizes.now list.paths.now in
         master_verdict asked (length image.old) (length words.old) (length bytes.old) ≡ Ok tt }
     ensures answer { result ≡ Ok tt }
-    ensures image_after { let asked = wished game_code disc_end table.now.sizes.now table.now.paths.now in
+    ensures image_after { let list = table.now in
+        let asked = wished game_code disc_end list.sizes.now list.paths.now in
         image.new ≡ written_master asked image.old }
 {
     let size = table.size();
     let sizes = table.sizes;
-    placement::place(HEADER_LEN + size, sizes, words);
+    placement::place((HEADER_LEN + size) as u32, sizes, words);
     write_blank(image, game_code, disc_end, size as u32)?;
     table.write(&words[..sizes.len()], bytes, &mut image[HEADER_LEN..]);
     Ok(())
 }
 
 /// Writes a fresh image over what the buffer holds below the disc end: the header, with the game code, the
-/// GameCube magic, FST offset 0x440, the FST size and the disc end as user size; the table; and 0 in every other
-/// byte. What is behind the disc end stays.
+/// GameCube magic, FST offset 0x440, the FST size and the disc end as user size; the table; and 0 in every
+/// other byte. What is behind the disc end stays.
 ///
-/// Refuses, with the image as it was: 8 where not exactly one path is ended by a zero byte for each size; path by
-/// path 9 over 1,024 bytes, 13 and 12 for a name in it, 19 where it is not behind the path before it or uses an
-/// earlier file as a directory; 9 for the limits of the new tree, for too few words (4 for each entry, and 8) or
-/// working bytes (the table's size), and for a buffer that is shorter than the disc end; 21 exactly where header,
-/// table and files, each on a multiple of 0x8000, fit in no way. Words and bytes are zero afterwards.
+/// Refuses, with the image as it was: 8 where not exactly one path is ended by a zero byte for each size;
+/// path by path 9 over 1,024 bytes, 13 and 12 for a name in it, 19 where it is not behind the path before it
+/// or uses an earlier file as a directory; 9 for the limits of the new tree, for too few words (4 for each
+/// entry, and 8) or working bytes (the table's size), and for a buffer that is shorter than the disc end; 21
+/// exactly where header, table and files, each on a multiple of 0x8000, fit in no way. Words and bytes are
+/// zero afterwards.
 pub fn write_master(
     image: &mut [u8],
     master: Master<'_>,
@@ -130,8 +138,8 @@ pub fn write_master(
     )
 }
 
-// ---- The theorems about every new master, each the promise of a function that does nothing: what they say is
-// in specs/Theorem.antt, and why they hold in proofs/Laws/.
+// ---- The theorems about every new master, each the promise of a function that does nothing: what they say
+// is in specs/Theorem.antt, and why they hold in proofs/Laws/.
 
 // Its tree is the wish list: the files in their order, each directory before its first file, and no other.
 pub fn tree_is_wish_list()

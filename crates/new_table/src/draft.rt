@@ -1,6 +1,7 @@
 // A table that is written from its last entry to its first, where it is known where each directory ends.
 // Its directories store the parent 0.
-ghost use Rattle.std.specs.Prelude.{◌≡◌, ℕ, suc, ◌+◌, ◌-◌, ◌<◌, ◌≤◌, [], ◌∷◌, ◌++◌, length, take, drop, slice_index};
+ghost use Rattle.std.specs.Prelude.{◌≡◌, ◌+◌, ◌-◌, ◌<◌, ◌≤◌, [], ◌∷◌, ◌++◌};
+ghost use Rattle.std.specs.Prelude.{ℕ, suc, length, take, drop, slice_index};
 ghost use Rattle.endian.specs.Bytes.{put};
 ghost use Rattle.tree.specs.Table.{file, directory};
 ghost use Rattle.wish_list.specs.Paths.{names_of};

@@ -1,5 +1,6 @@
 // The table of a new master, measured and within the limits.
-ghost use Rattle.std.specs.Prelude.{◌≡◌, ℕ, ◌+◌, ◌*◌, ◌^◌, ◌<◌, ◌≤◌, [], length, take, slice_index, Ok, Err, IsTrue, is_ok, IfOk, IfErr};
+ghost use Rattle.std.specs.Prelude.{◌≡◌, ◌+◌, ◌*◌, ◌^◌, ◌<◌, ◌≤◌, ℕ, [], length, take, slice_index};
+ghost use Rattle.std.specs.Prelude.{Ok, Err, IsTrue, is_ok, IfOk, IfErr};
 ghost use Rattle.endian.specs.Bytes.{put};
 ghost use Rattle.tree.specs.Table.{encode, limits};
 ghost use Rattle.wish_list.specs.Paths.{list_verdict};
@@ -35,8 +36,8 @@ pub struct NewTable<'a> {
         IsTrue (is_ok (limits nodes (4 * (entries + 2)))) },
 }
 
-// Does nothing: that each number fits 4 bytes the proof knows of a slice that is a parameter, and not of a
-// field.
+// Does nothing.
+// Kept: that each number fits 4 bytes the proof knows of a slice that is a parameter, not of a field (P).
 fn bound(numbers: &[u32])
     ensures { (i : ℕ) → slice_index numbers.now i < 2 ^ 32 }
 {}

@@ -37,15 +37,15 @@ pub fn shared_bytes(before: &[u8], path: &[u8]) -> usize
     shared
 }
 
-/// Where the part without the byte b starts that ends before `end`: behind the last b, or at `from`.
-pub fn part_start(bytes: &[u8], b: u8, from: usize, end: usize) -> usize
+/// Where the part without the separator starts that ends before `end`: behind the last one, or at `from`.
+pub fn part_start(bytes: &[u8], separator: u8, from: usize, end: usize) -> usize
     requires order { from ≤ end }
     requires within { end ≤ length bytes.now }
-    ensures { IsCut bytes.now b from result end }
+    ensures { IsCut bytes.now separator from result end }
 {
     let mut start = end;
     // Kept: over places, as above.
-    while from < start && bytes[start - 1] != b {
+    while from < start && bytes[start - 1] != separator {
         start -= 1;
     }
     start

@@ -4,12 +4,13 @@
 mod need;
 mod placing;
 
-ghost use Rattle.placement.specs.Theorem.{Complete, Sound, Exactly, EndsLeast, EmptyAtZero, LastLargest, PassesLayout};
+ghost use Rattle.placement.specs.Theorem.{Complete, Sound, Exactly, EndsLeast};
+ghost use Rattle.placement.specs.Theorem.{EmptyAtZero, LastLargest, PassesLayout};
 
 pub use placing::{is_placeable, place};
 
-// ---- Theorems, each the promise of a function that does nothing: what they say is in specs/Theorem.antt, and
-// why they hold in proofs/Laws/.
+// ---- Theorems, each the promise of a function that does nothing: what they say is in specs/Theorem.antt,
+// and why they hold in proofs/Laws/.
 
 // Files that are placed, however they are placed, fit.
 pub fn complete()

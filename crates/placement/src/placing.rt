@@ -7,13 +7,11 @@ use crate::need::{need_of, whole_size};
 
 /// Header and table, which end at byte `table_end`, and files of these sizes in bytes can be placed below
 /// `disc_end`.
-pub fn is_placeable(table_end: usize, disc_end: u32, sizes: &[u32]) -> bool
-    requires table { table_end < 2 ^ 32 }
-    requires files { length sizes.now ≤ 16384 }
+pub fn is_placeable(table_end: u32, disc_end: u32, sizes: &[u32]) -> bool
+    requires { length sizes.now ≤ 16384 }
     ensures { result ≡ placement_of.is_placeable table_end disc_end sizes.now }
 {
     let need = need_of(sizes);
-    let table_end = table_end as u32;
     // Without a byte of a file, the disc may end with the table.
     let least_end = if need.whole == 0 {
         u64::from(table_end)
@@ -33,15 +31,14 @@ fn offset_at(at: u64, size: u32) -> u32
 
 /// Places files of these sizes in bytes behind a table that ends at byte `table_end`: the offset of each, in
 /// bytes from the start of the disc. Further words of `offsets` stay.
-pub fn place(table_end: usize, sizes: &[u32], offsets: &mut [u32])
-    requires table { table_end < 2 ^ 32 }
+pub fn place(table_end: u32, sizes: &[u32], offsets: &mut [u32])
     requires files { length sizes.now ≤ 16384 }
     requires room { length sizes.now ≤ length offsets.old }
     requires disc_end { least_end table_end sizes.now < 2 ^ 32 }
     ensures { offsets.new ≡ offsets_of table_end sizes.now ++ drop (length sizes.now) offsets.old }
 {
     let need = need_of(sizes);
-    let mut next = whole_size(table_end as u32);
+    let mut next = whole_size(table_end);
     let end = next + need.whole;
     for (i, &size) in sizes.iter().enumerate() {
         let whole = whole_size(size);

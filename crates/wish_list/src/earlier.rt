@@ -1,6 +1,7 @@
 // The paths that came before a path: whether it is behind them all, and whether one of them is used as a
 // directory.
-ghost use Rattle.std.specs.Prelude.{◌≡◌, ◌≤◌, ◌<◌, ℕ, List, [], ◌∷◌, length, false, ◌&&◌, ◌==◌, slice_index, slice_index_or};
+ghost use Rattle.std.specs.Prelude.{◌≡◌, ◌≤◌, ◌<◌, ◌&&◌, ◌==◌, ℕ, List, [], ◌∷◌, length, false};
+ghost use Rattle.std.specs.Prelude.{slice_index, slice_index_or};
 ghost use Rattle.std.specs.Result.{IfOk};
 ghost use Rattle.wish_list.specs.Inner.Earlier.{common_length, order_verdict, IsKept};
 
@@ -27,7 +28,7 @@ fn clear(marks: &mut [bool], from: usize, to: usize)
     marks[from..to].fill(false);
 }
 
-/// The paths that came before, each behind the one before it: what has to be known of them for the next one.
+/// The paths that came before, each behind the one before it: what has to be known of them for the next.
 // Kept: no derived equality, since nothing compares two (N).
 #[derive(Drop)]
 pub struct Earlier<'a> {
@@ -48,8 +49,8 @@ impl<'a> Earlier<'a> {
         }
     }
 
-    // Whether so many bytes, which this path has in common with the last one, are one of the paths, and the
-    // next byte of this path is `/`.
+    // Whether so many bytes, which this path has in common with the last one, are one of the paths, and
+    // the next byte of this path is `/`.
     fn is_around(&self, path: &[u8], common: usize) -> bool
         requires within { common < length path.now }
         requires short { common ≤ 1024 }
@@ -64,7 +65,8 @@ impl<'a> Earlier<'a> {
         requires some { 0 < length path.now }
         requires short { length path.now ≤ 1024 }
         ensures verdict { (before : List (List ℕ)) →
-            IsKept before self.old.last.now self.old.marks → result ≡ order_verdict before path.now }
+            IsKept before self.old.last.now self.old.marks →
+            result ≡ order_verdict before path.now }
         ensures kept { (before : List (List ℕ)) →
             IsKept before self.old.last.now self.old.marks →
             IfOk result (λ _. IsKept (path.now ∷ before) self.new.last.now self.new.marks) }
@@ -72,8 +74,8 @@ impl<'a> Earlier<'a> {
         if path <= self.last {
             return Err(Refusal::AlreadyExists);
         }
-        // A file that is a directory around this path is the part in common with the last one: if it were
-        // longer, it would be behind the last path, and if it were shorter, it would be around that one too.
+        // A file that is a directory around this path is the part in common with the last one: if it
+        // were longer, it would be behind the last path, and if it were shorter, around that one too.
         let common = common_length(self.last, path);
         if self.is_around(path, common) {
             return Err(Refusal::AlreadyExists);

@@ -3,7 +3,8 @@ ghost use Rattle.std.specs.Prelude.{◌≡◌, ℕ, List, [], ◌∷◌, Ok, Err
 ghost use Rattle.std.specs.Result.{IfOk, IfErr};
 ghost use Rattle.std.specs.List.{list_all};
 ghost use Rattle.tree.specs.Table.{is_plain, is_safe};
-ghost use Rattle.wish_list.specs.Paths.{paths_in, names_of, ends_verdict, path_verdict, paths_verdict, list_verdict};
+ghost use Rattle.wish_list.specs.Paths.{paths_in, names_of};
+ghost use Rattle.wish_list.specs.Paths.{ends_verdict, path_verdict, paths_verdict, list_verdict};
 ghost use Rattle.wish_list.specs.Inner.Earlier.{form_verdict, IsKept};
 
 use crate::earlier::Earlier;
@@ -107,7 +108,8 @@ pub struct WishList<'a> {
 impl<'a> WishList<'a> {
     /// Judges the paths of files with these sizes.
     pub fn new(paths: &'a [u8], sizes: &'a [u32]) -> Result<Self, Refusal>
-        ensures refused { IfErr result (λ cause. list_verdict paths.now (length sizes.now) ≡ Err cause) }
+        ensures refused { IfErr result (λ cause.
+            list_verdict paths.now (length sizes.now) ≡ Err cause) }
         ensures accepted { IfOk result (λ _. list_verdict paths.now (length sizes.now) ≡ Ok tt) }
         ensures paths { IfOk result (λ list. list.paths.now ≡ paths.now) }
         ensures sizes { IfOk result (λ list. list.sizes.now ≡ sizes.now) }

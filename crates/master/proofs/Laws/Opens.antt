@@ -104,6 +104,10 @@ unfolding tree pick
 files_of-tree paths sizes offsets a b =
     files_of-tree_from 1 [] (wishes paths sizes offsets) (wishes-named paths sizes offsets) ∙ regions_wished-wishes paths sizes offsets a b
 
+-- the table with these offsets has the size that was measured
+pub table-sized : (m : Master) → length (encode (nodes_at m (offsets_of (first_free m) m.sizes))) ≡ table_size m
+table-sized m = encode-length-placed (paths_in m.paths) m.sizes (offsets_of (first_free m) m.sizes) m.sizes []
+
 -- ---- it opens
 
 module _ (m : Master) (image : List ℕ) (words bytes : ℕ) (g : IsGranted m (length image) words bytes) where
@@ -127,7 +131,7 @@ module _ (m : Master) (image : List ℕ) (words bytes : ℕ) (g : IsGranted m (l
 
   size-same : length (encode (nodes_of_master m)) ≡ table_size m
   unfolding nodes_of_master
-  size-same = encode-length-placed (paths_in m.paths) m.sizes offsets m.sizes []
+  size-same = table-sized m
 
   limits-same : limits (nodes_of_master m) words ≡ Ok tt
   unfolding nodes_of_master

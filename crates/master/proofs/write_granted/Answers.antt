@@ -7,14 +7,15 @@ use Rattle.tree.specs.Table.{encode}
 use Rattle.placement.specs.Placement.{offsets_of}
 use Rattle.master.specs.Master.{Master, nodes_at, table_size, first_free, header_of_master}
 use Rattle.master.specs.Asked.{wished}
-use Rattle.master.proofs.Writing.{Ready, ready, tail-put, offsets-front, table-sized, in-parts}
+use Rattle.master.proofs.Laws.Opens.{table-sized}
+use Rattle.master.proofs.Writing.{Ready, ready, tail-put, offsets-front, in-parts}
 use Rattle.master.proofs.write_granted.Goals as goal
 
 pub overflow_add-size : goal.overflow_add-size
 overflow_add-size c = let r = ready _ _ _ _ c.requires in omega (arith, r.few)
 
-pub place-requires-clause-table : goal.place-requires-clause-table
-place-requires-clause-table c = let r = ready _ _ _ _ c.requires in omega (arith, r.few)
+pub overflow_cast-size : goal.overflow_cast-size
+overflow_cast-size c = let r = ready _ _ _ _ c.requires in omega (arith, r.few)
 
 pub place-requires-clause-disc_end : goal.place-requires-clause-disc_end
 place-requires-clause-disc_end c = let r = ready _ _ _ _ c.requires in rw c.size-size.ensures (omega (arith, r.least))
@@ -25,8 +26,8 @@ place-requires-clause-files c = let r = ready _ _ _ _ c.requires in r.few.files
 pub place-requires-clause-room : goal.place-requires-clause-room
 place-requires-clause-room c = let r = ready _ _ _ _ c.requires in r.few.offsets
 
-pub overflow_cast-size : goal.overflow_cast-size
-overflow_cast-size c = let r = ready _ _ _ _ c.requires in omega (arith, r.few)
+pub overflow_cast-size-2 : goal.overflow_cast-size-2
+overflow_cast-size-2 c = let r = ready _ _ _ _ c.requires in omega (arith, r.few)
 
 pub write_blank-requires-clause-header : goal.write_blank-requires-clause-header
 write_blank-requires-clause-header c = let r = ready _ _ _ _ c.requires in omega (arith, r.table)

@@ -31,24 +31,24 @@ returns-then-bytes-size-clause-refused c =
       | then-bytes-size-via-else-bytes-size+then-room-self w ↦ refused-room m c.args.room c.args.words c.args.bytes c.in_ok-list.ensures.accepted limited (omega arith) (omega arith)
     ]
 
-pub overflow_add-size : goal.overflow_add-size
-overflow_add-size c =
+pub overflow_add-table_end : goal.overflow_add-table_end
+overflow_add-table_end c =
     let m = master_of c.args.self in
     let limited : limits (nodes_at m []) c.args.words ≡ Ok tt = rw (c.in_ok-list.ensures.paths, c.in_ok-list.ensures.sizes) at c.in_ok-table.ensures.ok in
     let size : c.size-size.result ≡ table_size m = rw (c.in_ok-table.ensures.list, c.in_ok-table.ensures.sizes, c.in_ok-list.ensures.paths, c.in_ok-list.ensures.sizes) at c.size-size.ensures in
     let n : Few m c.args.words = few m c.args.words c.in_ok-list.ensures.accepted limited in
     omega (arith, n.table)
 
-pub is_placeable-requires-clause-table : goal.is_placeable-requires-clause-table
-is_placeable-requires-clause-table c =
+pub overflow_cast-table_end : goal.overflow_cast-table_end
+overflow_cast-table_end c =
     let m = master_of c.args.self in
     let limited : limits (nodes_at m []) c.args.words ≡ Ok tt = rw (c.in_ok-list.ensures.paths, c.in_ok-list.ensures.sizes) at c.in_ok-table.ensures.ok in
     let size : c.size-size.result ≡ table_size m = rw (c.in_ok-table.ensures.list, c.in_ok-table.ensures.sizes, c.in_ok-list.ensures.paths, c.in_ok-list.ensures.sizes) at c.size-size.ensures in
     let n : Few m c.args.words = few m c.args.words c.in_ok-list.ensures.accepted limited in
     omega (arith, n.table)
 
-pub is_placeable-requires-clause-files : goal.is_placeable-requires-clause-files
-is_placeable-requires-clause-files c =
+pub is_placeable-requires : goal.is_placeable-requires
+is_placeable-requires c =
     let m = master_of c.args.self in
     let limited : limits (nodes_at m []) c.args.words ≡ Ok tt = rw (c.in_ok-list.ensures.paths, c.in_ok-list.ensures.sizes) at c.in_ok-table.ensures.ok in
     let size : c.size-size.result ≡ table_size m = rw (c.in_ok-table.ensures.list, c.in_ok-table.ensures.sizes, c.in_ok-list.ensures.paths, c.in_ok-list.ensures.sizes) at c.size-size.ensures in

@@ -7,7 +7,7 @@ use Rattle.placement.proofs.placing.is_placeable.Goals.{then-need-eq0, else-need
 
 pub overflow_add-least_end : goal.overflow_add-least_end
 overflow_add-least_end c =
-    omega (arith, c.need_of-need.ensures.whole, whole-bound c.args.table_end c.requires.table, sum_bound c.args.sizes.now (λ k. (c.type_inv.sizes k).fits))
+    omega (arith, c.need_of-need.ensures.whole, whole-bound c.args.table_end c.ranges.table_end.fits, sum_bound c.args.sizes.now (λ k. (c.type_inv.sizes k).fits))
 
 pub overflow_sub-least_end : goal.overflow_sub-least_end
 overflow_sub-least_end c = omega (arith, c.need_of-need.ensures.whole, c.need_of-need.ensures.rest, rest-sum c.args.sizes.now)

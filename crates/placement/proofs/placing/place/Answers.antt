@@ -11,7 +11,7 @@ use Rattle.placement.proofs.placing.place.Goals.{then-i-need, else-i-need, then-
 
 pub overflow_add-end : goal.overflow_add-end
 overflow_add-end c =
-    omega (arith, c.need_of-need.ensures.whole, whole-bound c.args.table_end c.requires.table, sum_bound c.args.sizes.now (λ k. (c.type_inv.sizes k).fits))
+    omega (arith, c.need_of-need.ensures.whole, whole-bound c.args.table_end c.ranges.table_end.fits, sum_bound c.args.sizes.now (λ k. (c.type_inv.sizes k).fits))
 
 pub loop-i-init : goal.loop-i-init
 loop-i-init c = (refl, rw c.whole_size-next.ensures (next_first (last_file c.args.sizes.now) (whole_size c.args.table_end) c.args.sizes.now))
@@ -30,7 +30,7 @@ offset_at-requires c z =
 
 pub overflow_add-next : goal.overflow_add-next
 overflow_add-next c =
-    omega (arith, whole-bound c.args.table_end c.requires.table, sum_bound c.args.sizes.now (λ k. (c.type_inv.sizes k).fits), sum-room c.args.sizes.now c.loop-i.i c.loop-i-test.true, next-most (last_file c.args.sizes.now) (whole_size c.args.table_end) c.args.sizes.now c.loop-i.i c.loop-i.next c.loop-i.invariant.1)
+    omega (arith, whole-bound c.args.table_end c.ranges.table_end.fits, sum_bound c.args.sizes.now (λ k. (c.type_inv.sizes k).fits), sum-room c.args.sizes.now c.loop-i.i c.loop-i-test.true, next-most (last_file c.args.sizes.now) (whole_size c.args.table_end) c.args.sizes.now c.loop-i.i c.loop-i.next c.loop-i.invariant.1)
 
 pub loop-i-preserved : goal.loop-i-preserved
 loop-i-preserved c =
