@@ -20,7 +20,7 @@ use Rattle.tree.specs.declared.Found.{Found}
 use Rattle.tree.specs.declared.Found.TheVariants as found
 use Rattle.executable.specs.declared.dol.DolHeader.{DolHeader}
 use Rattle.disc.specs.declared.answers.DolFile.{DolFile}
-use Rattle.space.specs.declared.totals.Totals.{Totals}
+use Rattle.totals.specs.declared.Totals.{Totals}
 use Rattle.executable.specs.Program.{Program}
 use Rattle.window.specs.declared.Window.{Window}
 use Rattle.edit_rules.specs.Edits.{number_behind}

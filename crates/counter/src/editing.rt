@@ -1,4 +1,4 @@
-// The edits. The totals record is lent: used bytes, the largest free region's size, accepted edits.
+// The edits. The totals record is lent, and each edit carries a team.
 ghost use Rattle.edit_rules.specs.Edits as edits;
 ghost use Rattle.edit_rules.specs.Promise.{IsEdited, loan};
 ghost use Rattle.edit.specs.Asked.{edit_of};
@@ -6,7 +6,7 @@ ghost use Rattle.counter.specs.Replies.{reply, one_word, done_number, entry_repl
 
 use crate::answer::give;
 use edit::{Edit, Kind, NewEntry};
-use space::Totals;
+use totals::Totals;
 
 // Kept: image, words, bytes and record one by one: in the exported functions C lends each by itself
 // (C). In `give_done` and `give_entry`, which C does not call, each is written or zeroed apart from
@@ -18,13 +18,14 @@ fn give_done(
     words: &mut [u32],
     bytes: &mut [u8],
     totals: &mut Totals,
+    team: u32,
     edit: Edit<'_>,
 ) -> u32
-    ensures { IsEdited done_number (edit_of edit.entry)
+    ensures { IsEdited done_number (edit_of edit.entry) team
         (loan image.old words.old bytes.old totals.old)
         (loan image.new words.new bytes.new totals.new) result }
 {
-    give(&mut (), edit::done(image, words, bytes, totals, edit))
+    give(&mut (), edit::done(image, words, bytes, totals, team, edit))
 }
 
 #[unsafe(no_mangle)]
@@ -33,14 +34,15 @@ pub extern "C" fn counter_move_file(
     words: &mut [u32],
     bytes: &mut [u8],
     totals: &mut Totals,
+    team: u32,
     file: u32,
     offset: u32,
 ) -> u32
-    ensures { IsEdited done_number (edits.move_file file offset)
+    ensures { IsEdited done_number (edits.move_file file offset) team
         (loan image.old words.old bytes.old totals.old)
         (loan image.new words.new bytes.new totals.new) result }
 {
-    give_done(image, words, bytes, totals, Edit::Move { file, offset })
+    give_done(image, words, bytes, totals, team, Edit::Move { file, offset })
 }
 
 #[unsafe(no_mangle)]
@@ -49,14 +51,15 @@ pub extern "C" fn counter_resize_file(
     words: &mut [u32],
     bytes: &mut [u8],
     totals: &mut Totals,
+    team: u32,
     file: u32,
     size: u32,
 ) -> u32
-    ensures { IsEdited done_number (edits.resize_file file size)
+    ensures { IsEdited done_number (edits.resize_file file size) team
         (loan image.old words.old bytes.old totals.old)
         (loan image.new words.new bytes.new totals.new) result }
 {
-    give_done(image, words, bytes, totals, Edit::Resize { file, size })
+    give_done(image, words, bytes, totals, team, Edit::Resize { file, size })
 }
 
 #[unsafe(no_mangle)]
@@ -65,14 +68,15 @@ pub extern "C" fn counter_fill_file(
     words: &mut [u32],
     bytes: &mut [u8],
     totals: &mut Totals,
+    team: u32,
     file: u32,
     clip: &[u8],
 ) -> u32
-    ensures { IsEdited done_number (edits.fill_file file clip.now)
+    ensures { IsEdited done_number (edits.fill_file file clip.now) team
         (loan image.old words.old bytes.old totals.old)
         (loan image.new words.new bytes.new totals.new) result }
 {
-    give_done(image, words, bytes, totals, Edit::Fill { file, clip })
+    give_done(image, words, bytes, totals, team, Edit::Fill { file, clip })
 }
 
 #[unsafe(no_mangle)]
@@ -81,12 +85,13 @@ pub extern "C" fn counter_rewrite(
     words: &mut [u32],
     bytes: &mut [u8],
     totals: &mut Totals,
+    team: u32,
 ) -> u32
-    ensures { IsEdited done_number edits.rewrite
+    ensures { IsEdited done_number edits.rewrite team
         (loan image.old words.old bytes.old totals.old)
         (loan image.new words.new bytes.new totals.new) result }
 {
-    give_done(image, words, bytes, totals, Edit::Rewrite)
+    give_done(image, words, bytes, totals, team, Edit::Rewrite)
 }
 
 // ---- the edits that add entries, each with the number of the entry that it gives
@@ -96,14 +101,15 @@ fn give_entry(
     words: &mut [u32],
     bytes: &mut [u8],
     totals: &mut Totals,
+    team: u32,
     edit: Edit<'_>,
     answer: &mut u32,
 ) -> u32
-    ensures { IsEdited (entry_reply (one_word answer.old)) (edit_of edit.entry)
+    ensures { IsEdited (entry_reply (one_word answer.old)) (edit_of edit.entry) team
         (loan image.old words.old bytes.old totals.old)
         (loan image.new words.new bytes.new totals.new) (reply result (one_word answer.new)) }
 {
-    give(answer, edit::run(image, words, bytes, totals, edit))
+    give(answer, edit::run(image, words, bytes, totals, team, edit))
 }
 
 #[unsafe(no_mangle)]
@@ -112,17 +118,18 @@ pub extern "C" fn counter_insert_file(
     words: &mut [u32],
     bytes: &mut [u8],
     totals: &mut Totals,
+    team: u32,
     parent: u32,
     name: &[u8],
     answer: &mut u32,
 ) -> u32
-    ensures { IsEdited (entry_reply (one_word answer.old)) (edits.insert_file parent name.now)
+    ensures { IsEdited (entry_reply (one_word answer.old)) (edits.insert_file parent name.now) team
         (loan image.old words.old bytes.old totals.old)
         (loan image.new words.new bytes.new totals.new) (reply result (one_word answer.new)) }
 {
     let kind = Kind::File;
     let new = NewEntry { parent, kind, name };
-    give_entry(image, words, bytes, totals, Edit::Insert(new), answer)
+    give_entry(image, words, bytes, totals, team, Edit::Insert(new), answer)
 }
 
 #[unsafe(no_mangle)]
@@ -131,17 +138,18 @@ pub extern "C" fn counter_insert_directory(
     words: &mut [u32],
     bytes: &mut [u8],
     totals: &mut Totals,
+    team: u32,
     parent: u32,
     name: &[u8],
     answer: &mut u32,
 ) -> u32
-    ensures { IsEdited (entry_reply (one_word answer.old)) (edits.insert_directory parent name.now)
+    ensures { IsEdited (entry_reply (one_word answer.old)) (edits.insert_directory parent name.now) team
         (loan image.old words.old bytes.old totals.old)
         (loan image.new words.new bytes.new totals.new) (reply result (one_word answer.new)) }
 {
     let kind = Kind::Directory;
     let new = NewEntry { parent, kind, name };
-    give_entry(image, words, bytes, totals, Edit::Insert(new), answer)
+    give_entry(image, words, bytes, totals, team, Edit::Insert(new), answer)
 }
 
 #[unsafe(no_mangle)]
@@ -150,11 +158,12 @@ pub extern "C" fn counter_make_directories(
     words: &mut [u32],
     bytes: &mut [u8],
     totals: &mut Totals,
+    team: u32,
     start: u32,
     path: &[u8],
     answer: &mut u32,
 ) -> u32
-    ensures { IsEdited (entry_reply (one_word answer.old)) (edits.make_directories start path.now)
+    ensures { IsEdited (entry_reply (one_word answer.old)) (edits.make_directories start path.now) team
         (loan image.old words.old bytes.old totals.old)
         (loan image.new words.new bytes.new totals.new) (reply result (one_word answer.new)) }
 {
@@ -163,6 +172,7 @@ pub extern "C" fn counter_make_directories(
         words,
         bytes,
         totals,
+        team,
         Edit::MakeDirectories { start, path },
         answer,
     )

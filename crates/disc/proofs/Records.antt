@@ -5,7 +5,7 @@ use Rattle.header.specs.Verdicts.{disc_end, table_end}
 use Rattle.space.specs.Free.{largest_size}
 use Rattle.space.specs.Used.{total_size}
 use Rattle.space.specs.Inner.Sort.{regions_in}
-use Rattle.space.specs.declared.totals.Totals.{Totals}
+use Rattle.totals.specs.declared.Totals.{Totals}
 use Rattle.space.specs.Inner.Scan.{longest_from}
 use Rattle.space.specs.Laws.LargestLaws.{largest-now}
 use Rattle.opened.specs.Opening.{used_in, regions_behind_table, free_space_of}

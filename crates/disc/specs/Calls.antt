@@ -10,7 +10,9 @@ use Rattle.space.specs.declared.region.DiscRegion.{DiscRegion}
 use Rattle.space.specs.Free.{largest_size}
 use Rattle.space.specs.Listing.{region_row, cluster_row, listing_of, list_after}
 use Rattle.space.specs.Allocate.{allocation_of}
-use Rattle.space.specs.declared.totals.Totals.{Totals}
+use Rattle.totals.specs.declared.team.Team.{Team}
+use Rattle.totals.specs.declared.Totals.{Totals}
+use Rattle.totals.specs.Totals.{new_teams}
 use Rattle.executable.specs.Program.{Program, program_of}
 use Rattle.opened.specs.Opening.{opening, free_space_of, used_of}
 use Rattle.opened.specs.Answers.{answer_behind, summary_of}
@@ -26,13 +28,13 @@ unfoldable pub totals_answer : List ℕ → ℕ → Result DiscTotals Refusal
 totals_answer image words =
     answer_behind (opening image words) Err (Ok (record { disc_end = disc_end image; used = used_of image }))
 
--- an image's own record, as it is after n edits
-abbrev pub totals_of : List ℕ → ℕ → Totals
-totals_of image n = record { used = used_of image; largest = largest_size (free_space_of image); edits = n }
+-- an image's own record, with these teams
+abbrev pub totals_of : List ℕ → List Team → Totals
+totals_of image teams = record { used = used_of image; largest = largest_size (free_space_of image); teams = teams }
 
--- RULES, The totals record: a record made of an image counts no edit
-unfoldable pub record_answer : List ℕ → ℕ → Result Totals Refusal
-record_answer image words = answer_behind (opening image words) Err (Ok (totals_of image 0))
+-- RULES, The totals record: in a record made of an image no team has taken anything
+unfoldable pub record_answer : List ℕ → ℕ → List ℕ → List ℕ → Result Totals Refusal
+record_answer image words limits shares = answer_behind (opening image words) Err (Ok (totals_of image (new_teams limits shares)))
 
 -- wherever the program lies
 unfoldable pub program_answer : List ℕ → ℕ → Program

@@ -1,6 +1,7 @@
 // What an image's header and its regions say: opening, totals, the totals record, the program, free
 // regions, clusters, the largest size of a region, allocation.
 ghost use Rattle.std.specs.Prelude.{◌≡◌, List, ℕ, length};
+ghost use Rattle.totals.specs.Totals.{new_teams};
 ghost use Rattle.opened.specs.Opening.{zeros};
 ghost use Rattle.opened.specs.Inner.Disc.{Means};
 ghost use Rattle.opened.specs.Answers.{max_region_size_answer};
@@ -12,7 +13,8 @@ use crate::answers::DiscTotals;
 use executable::Program;
 use opened::{Lent, OpenDisc, Summary};
 use refusal::Refusal;
-use space::{Clusters, DiscRegion, Totals, UsedRegions};
+use space::{Clusters, DiscRegion, UsedRegions};
+use totals::{TEAMS, Totals};
 
 /// Opens an image and tells of its disc, or says why it is refused.
 #[tactic(auto, using(crate::proofs::Asked::not_asked), unfolding(crate::specs::Calls::open_answer))]
@@ -40,8 +42,13 @@ pub fn totals(image: &[u8], words: &mut [u32]) -> Result<DiscTotals, Refusal>
 }
 
 // The record of a disc before any edit.
-fn record_of(disc: &OpenDisc<'_>) -> Totals
-    ensures { (image : List ℕ) → Means image disc.now → result ≡ totals_of image 0 }
+fn record_of(
+    disc: &OpenDisc<'_>,
+    limits: &[u32; TEAMS],
+    shares: &[u32; TEAMS],
+) -> Totals
+    ensures { (image : List ℕ) → Means image disc.now →
+        result ≡ totals_of image (new_teams limits.now shares.now) }
 {
     let disc_end = disc.end();
     let used = UsedRegions::new(disc.words, disc.used, disc_end);
@@ -52,19 +59,26 @@ fn record_of(disc: &OpenDisc<'_>) -> Totals
     Totals {
         used: disc.used_size(),
         largest: space::largest_after(&used, disc_end, table_end, none, none),
-        edits: 0,
+        teams: totals::new_teams(limits, shares),
     }
 }
 
-/// A totals record of the image, its count 0.
+/// A totals record of the image for teams of these limits and shares, in bytes; nothing is taken, and no edit
+/// is counted.
 #[tactic(auto, using(crate::proofs::Asked::not_asked), unfolding(crate::specs::Calls::record_answer))]
-pub fn make_record(image: &[u8], words: &mut [u32]) -> Result<Totals, Refusal>
-    ensures answer { result ≡ record_answer image.now (length words.old) }
+pub fn make_record(
+    image: &[u8],
+    words: &mut [u32],
+    limits: &[u32; TEAMS],
+    shares: &[u32; TEAMS],
+) -> Result<Totals, Refusal>
+    ensures answer { let lent = length words.old in
+        result ≡ record_answer image.now lent limits.now shares.now }
     ensures words_zero { words.new ≡ zeros words.old }
 {
     let lent = Lent::new(words);
     let disc = OpenDisc::of_image(image, lent.memory)?;
-    Ok(record_of(&disc))
+    Ok(record_of(&disc, limits, shares))
 }
 
 /// Where the program lies, before the table or behind it; `None` if the image has none.

@@ -2,7 +2,7 @@
 use Rattle.std.specs.Prelude.{Result, ℕ, ◌≡◌, List, length}
 use Rattle.std.proofs.Common.{sym, subst}
 use Rattle.refusal.specs.declared.Refusal.{Refusal}
-use Rattle.space.specs.declared.totals.Totals.{Totals}
+use Rattle.totals.specs.declared.Totals.{Totals}
 use Rattle.opened.specs.Opening.{opening, Disc, disc_of}
 use Rattle.edit_rules.specs.Edits as edits
 use Rattle.edit_rules.specs.Edits.{plan_behind, plan_of, plan_verdict}

@@ -9,8 +9,8 @@ use mathlib.Core.List.{List}
 use lib.ListN.{length}
 use Rattle.refusal.specs.declared.Refusal.{Refusal}
 use Rattle.refusal.specs.Laws.Chains.{first-passed}
-use Rattle.space.specs.declared.totals.Totals.{Totals}
-use Rattle.space.specs.Totals.{totals_verdict}
+use Rattle.totals.specs.declared.Totals.{Totals}
+use Rattle.totals.specs.Totals.{totals_verdict}
 use Rattle.opened.specs.Opening.{opening, used_of, zeros, disc_of}
 use Rattle.opened.specs.Inner.Disc.{Opened, Means}
 use Rattle.edit_rules.specs.Change.{Plan, refused}

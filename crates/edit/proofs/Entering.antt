@@ -5,8 +5,8 @@ use Rattle.refusal.specs.Refusal.{Verdict}
 use Rattle.refusal.specs.declared.Refusal.{Refusal}
 use Rattle.header.specs.Verdicts.{fst_offset, fst_size, disc_end}
 use Rattle.space.specs.declared.region.DiscRegion.{DiscRegion}
-use Rattle.space.specs.declared.totals.Totals.{Totals}
-use Rattle.space.specs.Totals.{totals_verdict, moved_totals}
+use Rattle.totals.specs.declared.Totals.{Totals}
+use Rattle.totals.specs.Totals.{totals_verdict, moved_totals}
 use Rattle.space.specs.Inner.Scan.{longest_from, gone_of, moved_with, moved_as}
 use Rattle.opened.specs.Opening.{Disc}
 use Rattle.opened.specs.Inner.Disc.{Opened, Means}

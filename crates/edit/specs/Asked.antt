@@ -1,10 +1,12 @@
--- The edit that a value of `edit::Edit` asks for. Assumes nothing: these are definitions.
+-- The edit that a value of `edit::Edit` asks for, and the turn that a value of `edit::Turn` is. Assumes nothing: these are definitions.
 use Rattle.std.specs.Prelude.{ℕ, List}
 use Rattle.edit_rules.specs.Edits as edits
 use Rattle.table_writing.specs.declared.kind.Kind.{Kind}
 use Rattle.table_writing.specs.declared.kind.Kind.TheVariants as kind
 use Rattle.edit.specs.declared.pipeline.Edit.{Edit}
 use Rattle.edit.specs.declared.pipeline.Edit.TheVariants as edit
+use Rattle.edit.specs.declared.list.Turn as declared
+use Rattle.ledger.specs.Lists.{Turn}
 
 -- the two inserts as one: the edit that inserts an entry of the kind
 abbrev pub insertion : Kind → ℕ → List ℕ → edits.Edit
@@ -19,3 +21,6 @@ edit_of (edit.Resize file size) = edits.resize_file file size
 edit_of (edit.Fill file clip) = edits.fill_file file clip.now
 edit_of (edit.Insert new) = insertion new.kind new.parent new.name.now
 edit_of (edit.MakeDirectories start path) = edits.make_directories start path.now
+
+abbrev pub turn_of : declared.Turn → Turn
+turn_of x = record { team = x.team; edit = edit_of x.edit }

@@ -7,7 +7,7 @@ use crate::new_entry::NewEntry;
 use crate::pipeline;
 use crate::pipeline::Edit;
 use refusal::{Refusal, Verdict};
-use space::Totals;
+use totals::Totals;
 use table_writing::Kind;
 
 // Kept: `image`, `words`, `bytes`, `totals` in each call (C): the memory that a call of the library is lent.
@@ -17,12 +17,13 @@ pub fn rewrite(
     words: &mut [u32],
     bytes: &mut [u8],
     totals: &mut Totals,
+    team: u32,
 ) -> Verdict
     ensures { let before = loan image.old words.old bytes.old totals.old in
         let after = loan image.new words.new bytes.new totals.new in
-        IsEdited only_verdict edits.rewrite before after result }
+        IsEdited only_verdict edits.rewrite team before after result }
 {
-    pipeline::done(image, words, bytes, totals, Edit::Rewrite)
+    pipeline::done(image, words, bytes, totals, team, Edit::Rewrite)
 }
 
 /// The file goes to another offset.
@@ -31,14 +32,15 @@ pub fn move_file(
     words: &mut [u32],
     bytes: &mut [u8],
     totals: &mut Totals,
+    team: u32,
     file: u32,
     offset: u32,
 ) -> Verdict
     ensures { let before = loan image.old words.old bytes.old totals.old in
         let after = loan image.new words.new bytes.new totals.new in
-        IsEdited only_verdict (edits.move_file file offset) before after result }
+        IsEdited only_verdict (edits.move_file file offset) team before after result }
 {
-    pipeline::done(image, words, bytes, totals, Edit::Move { file, offset })
+    pipeline::done(image, words, bytes, totals, team, Edit::Move { file, offset })
 }
 
 /// The file gets another size, and another place where it cannot grow where it is.
@@ -47,14 +49,15 @@ pub fn resize_file(
     words: &mut [u32],
     bytes: &mut [u8],
     totals: &mut Totals,
+    team: u32,
     file: u32,
     size: u32,
 ) -> Verdict
     ensures { let before = loan image.old words.old bytes.old totals.old in
         let after = loan image.new words.new bytes.new totals.new in
-        IsEdited only_verdict (edits.resize_file file size) before after result }
+        IsEdited only_verdict (edits.resize_file file size) team before after result }
 {
-    pipeline::done(image, words, bytes, totals, Edit::Resize { file, size })
+    pipeline::done(image, words, bytes, totals, team, Edit::Resize { file, size })
 }
 
 /// Afterwards the file is the clip.
@@ -63,14 +66,15 @@ pub fn fill_file(
     words: &mut [u32],
     bytes: &mut [u8],
     totals: &mut Totals,
+    team: u32,
     file: u32,
     clip: &[u8],
 ) -> Verdict
     ensures { let before = loan image.old words.old bytes.old totals.old in
         let after = loan image.new words.new bytes.new totals.new in
-        IsEdited only_verdict (edits.fill_file file clip.now) before after result }
+        IsEdited only_verdict (edits.fill_file file clip.now) team before after result }
 {
-    pipeline::done(image, words, bytes, totals, Edit::Fill { file, clip })
+    pipeline::done(image, words, bytes, totals, team, Edit::Fill { file, clip })
 }
 
 // Kept: two inserts of one shape (C): each is a call of the library, with a promise of its own.
@@ -80,16 +84,17 @@ pub fn insert_file(
     words: &mut [u32],
     bytes: &mut [u8],
     totals: &mut Totals,
+    team: u32,
     parent: u32,
     name: &[u8],
 ) -> Result<u32, Refusal>
     ensures { let before = loan image.old words.old bytes.old totals.old in
         let after = loan image.new words.new bytes.new totals.new in
-        IsEdited number_behind (edits.insert_file parent name.now) before after result }
+        IsEdited number_behind (edits.insert_file parent name.now) team before after result }
 {
     let kind = Kind::File;
     let new = NewEntry { parent, kind, name };
-    pipeline::run(image, words, bytes, totals, Edit::Insert(new))
+    pipeline::run(image, words, bytes, totals, team, Edit::Insert(new))
 }
 
 /// An empty directory as last child of a directory; its number.
@@ -98,16 +103,17 @@ pub fn insert_directory(
     words: &mut [u32],
     bytes: &mut [u8],
     totals: &mut Totals,
+    team: u32,
     parent: u32,
     name: &[u8],
 ) -> Result<u32, Refusal>
     ensures { let before = loan image.old words.old bytes.old totals.old in
         let after = loan image.new words.new bytes.new totals.new in
-        IsEdited number_behind (edits.insert_directory parent name.now) before after result }
+        IsEdited number_behind (edits.insert_directory parent name.now) team before after result }
 {
     let kind = Kind::Directory;
     let new = NewEntry { parent, kind, name };
-    pipeline::run(image, words, bytes, totals, Edit::Insert(new))
+    pipeline::run(image, words, bytes, totals, team, Edit::Insert(new))
 }
 
 /// Makes each directory of the path that is missing, from the entry `start`: all of them or none. The number,
@@ -117,18 +123,20 @@ pub fn make_directories(
     words: &mut [u32],
     bytes: &mut [u8],
     totals: &mut Totals,
+    team: u32,
     start: u32,
     path: &[u8],
 ) -> Result<u32, Refusal>
     ensures { let before = loan image.old words.old bytes.old totals.old in
         let after = loan image.new words.new bytes.new totals.new in
-        IsEdited number_behind (edits.make_directories start path.now) before after result }
+        IsEdited number_behind (edits.make_directories start path.now) team before after result }
 {
     pipeline::run(
         image,
         words,
         bytes,
         totals,
+        team,
         Edit::MakeDirectories { start, path },
     )
 }

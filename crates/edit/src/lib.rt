@@ -28,7 +28,7 @@ pub use calls::{
     fill_file, insert_directory, insert_file, make_directories, move_file, resize_file, rewrite,
 };
 pub use decision::{Decision, Span, Writing};
-pub use list::apply_all;
+pub use list::{Turn, apply_all};
 pub use new_entry::NewEntry;
 pub use pipeline::{Edit, decide, done, run};
 pub use table_writing::Kind;

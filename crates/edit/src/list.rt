@@ -1,14 +1,22 @@
 // A list of edits, applied in turn as one call.
 ghost use Rattle.std.specs.Prelude.{length, map};
 ghost use Rattle.edit_rules.specs.Promise.{loan};
-ghost use Rattle.ledger.specs.Lists.{AppliesInTurn, LedgerHoldsAfter, TellsAfter};
-ghost use Rattle.edit.specs.Asked.{edit_of};
+ghost use Rattle.ledger.specs.Lists.{AppliesInTurn, LedgerHoldsAfter, TellsAfter, SharesHoldAfter};
+ghost use Rattle.edit.specs.Asked.{turn_of};
 
 use crate::pipeline;
 use crate::pipeline::Edit;
 use opened::Lent;
 use refusal::{Refusal, Verdict};
-use space::Totals;
+use totals::Totals;
+
+/// An edit, and the team whose turn it is.
+#[derive(Clone, Copy, Debug, PartialEq, Eq)]
+pub struct Turn<'a> {
+    /// The team's number.
+    pub team: u32,
+    pub edit: Edit<'a>,
+}
 
 /// Each edit in turn, on the image as the edits before it left it; a refused edit changes nothing, and the
 /// next one goes on. What an edit gives stands at its place in `answers`. Room for fewer answers than there
@@ -19,28 +27,32 @@ pub fn apply_all(
     words: &mut [u32],
     bytes: &mut [u8],
     totals: &mut Totals,
-    edits: &[Edit<'_>],
+    turns: &[Turn<'_>],
     answers: &mut [Result<u32, Refusal>],
 ) -> Verdict
     ensures applied { let before = loan image.old words.old bytes.old totals.old in
         let after = loan image.new words.new bytes.new totals.new in
-        AppliesInTurn (map edit_of edits.now) before after answers.old answers.new result }
+        AppliesInTurn (map turn_of turns.now) before after answers.old answers.new result }
     ensures ledger_holds { let before = loan image.old words.old bytes.old totals.old in
         let after = loan image.new words.new bytes.new totals.new in
-        LedgerHoldsAfter (length answers.old) (map edit_of edits.now) before after }
+        LedgerHoldsAfter (length answers.old) (map turn_of turns.now) before after }
     ensures record_tells { let before = loan image.old words.old bytes.old totals.old in
         let after = loan image.new words.new bytes.new totals.new in
-        TellsAfter (length answers.old) (map edit_of edits.now) before after }
+        TellsAfter (length answers.old) (map turn_of turns.now) before after }
+    ensures shares_hold { let before = loan image.old words.old bytes.old totals.old in
+        let after = loan image.new words.new bytes.new totals.new in
+        SharesHoldAfter (length answers.old) (map turn_of turns.now) before after }
 {
     let words = Lent::new(words);
     let bytes = Lent::new(bytes);
-    if answers.len() < edits.len() {
+    if answers.len() < turns.len() {
         return Err(Refusal::LimitOrMemory);
     }
     // Kept: answers by their index (N): of what is written through `iter_mut` beside `zip` nothing is known
     // afterwards.
-    for (i, edit) in edits.iter().enumerate() {
-        answers[i] = pipeline::run(image, words.memory, bytes.memory, totals, *edit);
+    for (i, turn) in turns.iter().enumerate() {
+        let Turn { team, edit } = *turn;
+        answers[i] = pipeline::run(image, words.memory, bytes.memory, totals, team, edit);
     }
     Ok(())
 }

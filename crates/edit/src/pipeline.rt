@@ -2,7 +2,9 @@
 ghost use Rattle.std.specs.Prelude.{◌≡◌, Ok, length};
 ghost use Rattle.opened.specs.Opening.{opening, disc_of};
 ghost use Rattle.edit_rules.specs.Edits as edits;
-ghost use Rattle.edit_rules.specs.Edits.{plan_behind, plan_of, number_behind};
+ghost use Rattle.refusal.specs.Refusal.{first};
+ghost use Rattle.totals.specs.Totals.{team_verdict};
+ghost use Rattle.edit_rules.specs.Edits.{account, plan_behind, plan_of, number_behind};
 ghost use Rattle.edit_rules.specs.Promise.{loan, only_verdict, IsEdited};
 ghost use Rattle.ledger.specs.Runs.{IsPassable};
 ghost use Rattle.edit.specs.Inner.Accounting.{account_with, IsAccountedFor};
@@ -14,7 +16,7 @@ use crate::new_entry::NewEntry;
 use crate::{account, decision, directories, filling, insertion, moving, resizing};
 use opened::{Lent, OpenDisc};
 use refusal::{Refusal, Verdict};
-use space::Totals;
+use totals::Totals;
 
 /// An edit, with all that it needs besides the image, the working memory and the record. Entries go by their
 /// numbers; offsets and sizes are in bytes.
@@ -77,7 +79,8 @@ pub fn decide(disc: &OpenDisc<'_>, bytes: &mut [u8], edit: Edit<'_>) -> Result<D
     }
 }
 
-// What is decided on, entered in the record: 25 comes last.
+// What is decided on, entered in the record of that team's edits. The team is the first test after opening,
+// the record's tests are the last.
 // Kept: `image`, `words`, `bytes`, `totals` one by one, here and below (N): each is written or zeroed apart
 // from the others, and a struct of four `&mut` would have each contract name the loan of each field.
 fn decide_image(
@@ -85,19 +88,22 @@ fn decide_image(
     words: &mut [u32],
     bytes: &mut [u8],
     totals: &mut Totals,
+    team: u32,
     edit: Edit<'_>,
 ) -> Result<Decision, Refusal>
     ensures accounted { let opened = opening image.now (length words.old) in
-        let plan = plan_behind opened (plan_of (edit_of edit.entry) (disc_of image.now)) in
+        let admitted = first opened (team_verdict team) in
+        let plan = plan_behind admitted (plan_of (edit_of edit.entry) (disc_of image.now)) in
         let clip = clip_of edit.entry in
         IsAccountedFor plan image.now (length words.old) (length bytes.old) bytes.new clip
-        totals.old (account_with result totals.new) }
+        (account totals.old team) (account_with result totals.new) }
     ensures passable { let opened = opening image.now (length words.old) in
         opened ≡ Ok tt → IsPassable (edit_of edit.entry) }
 {
     let disc = OpenDisc::of_image(image, words)?;
+    let team = totals::team_number(team)?;
     let decided = decide(&disc, bytes, edit);
-    account::account(&disc, decided, totals)
+    account::account(&disc, decided, totals, team)
 }
 
 /// The whole edit: opens the image, makes every test, builds the new table in the working bytes, and only
@@ -108,17 +114,18 @@ pub fn run(
     words: &mut [u32],
     bytes: &mut [u8],
     totals: &mut Totals,
+    team: u32,
     edit: Edit<'_>,
 ) -> Result<u32, Refusal>
     ensures edited { let before = loan image.old words.old bytes.old totals.old in
         let after = loan image.new words.new bytes.new totals.new in
-        IsEdited number_behind (edit_of edit.entry) before after result }
+        IsEdited number_behind (edit_of edit.entry) team before after result }
     ensures passable { let opened = opening image.old (length words.old) in
         opened ≡ Ok tt → IsPassable (edit_of edit.entry) }
 {
     let words = Lent::new(words);
     let bytes = Lent::new(bytes);
-    let decided = decide_image(image, words.memory, bytes.memory, totals, edit);
+    let decided = decide_image(image, words.memory, bytes.memory, totals, team, edit);
     decision::finish(image, bytes.memory, edit.clip(), decided)
 }
 
@@ -128,12 +135,13 @@ pub fn done(
     words: &mut [u32],
     bytes: &mut [u8],
     totals: &mut Totals,
+    team: u32,
     edit: Edit<'_>,
 ) -> Verdict
     ensures { let before = loan image.old words.old bytes.old totals.old in
         let after = loan image.new words.new bytes.new totals.new in
-        IsEdited only_verdict (edit_of edit.entry) before after result }
+        IsEdited only_verdict (edit_of edit.entry) team before after result }
 {
-    run(image, words, bytes, totals, edit)?;
+    run(image, words, bytes, totals, team, edit)?;
     Ok(())
 }

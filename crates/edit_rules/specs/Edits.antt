@@ -12,12 +12,13 @@ use Rattle.tree.specs.Table.{Node, empty_root, is_plain, is_safe}
 use Rattle.tree.specs.Lookup.{is_directory, next_of, components, is_staying, is_going_back, child_of}
 use Rattle.tree.specs.Insert.{insert_at, set_place, empty_file, empty_directory}
 use Rattle.space.specs.declared.region.DiscRegion.{DiscRegion}
-use Rattle.space.specs.Used.{no_region}
+use Rattle.space.specs.Used.{no_region, total_size}
 use Rattle.space.specs.Free.{largest_size}
 use Rattle.space.specs.MaxRegionSize.{max_region_size}
 use Rattle.space.specs.Allocate.{allocation_of}
-use Rattle.space.specs.declared.totals.Totals.{Totals}
-use Rattle.space.specs.Totals.{totals_verdict, moved_totals}
+use Rattle.totals.specs.declared.Totals.{Totals}
+use Rattle.totals.specs.declared.SpaceChange.{SpaceChange}
+use Rattle.totals.specs.Totals.{team_verdict, totals_verdict, moved_totals}
 use Rattle.opened.specs.Opening.{opening, nodes_in, free_space_of, used_of, region_of, Disc, disc_of, free_of}
 use Rattle.opened.specs.Answers.{answer_behind}
 use Rattle.edit_rules.specs.Change.{Change, written_image, table_verdict, Plan, refused, nothing, change, filled}
@@ -204,25 +205,48 @@ plan_image nothing image = image
 plan_image (change k c) image = written_image c image
 plan_image (filled k clip p) image = put (plan_image p image) (region_of (slice_index_or (plan_tree p (nodes_in image)) k empty_root)).offset clip
 
--- 25 is the last test of all; t is the record that the edit is handed
-unfoldable pub counted_verdict : Plan → Totals → List ℕ → ℕ → ℕ → Verdict
-counted_verdict p t image words bytes = first (plan_verdict p (disc_of image) words bytes) (totals_verdict t (used_of image) (used_of (plan_image p image)))
+-- ---- the record
 
--- the verdict on an edit of an image, with a record and so many working words and bytes lent: opening, the edit's own tests, the table's, 25
-unfoldable pub verdict_of : Edit → Totals → List ℕ → ℕ → ℕ → Verdict
-verdict_of ed t image words bytes = first (opening image words) (counted_verdict (plan_of ed (disc_of image)) t image words bytes)
+-- the record that an edit is handed, and the team that it carries
+pub record Account : Type 0 where
+  pub totals : Totals
+  pub team : ℕ
+
+abbrev pub account : Totals → ℕ → Account
+account t k = record { totals = t; team = k }
+
+-- what an edit of the image that leaves `new` does to used and free bytes
+abbrev pub space_change : List ℕ → List ℕ → SpaceChange
+space_change image new = record {
+  before = used_of image;
+  after = used_of new;
+  free = total_size (free_space_of new);
+  largest = largest_size (free_space_of new);
+}
+
+-- 27, 28 and 25 are the last tests of all
+unfoldable pub counted_verdict : Plan → Account → List ℕ → ℕ → ℕ → Verdict
+counted_verdict p a image words bytes =
+    first (plan_verdict p (disc_of image) words bytes) (totals_verdict a.totals a.team (space_change image (plan_image p image)))
+
+-- the verdict on an edit of an image, with an account and so many working words and bytes lent: opening, the team, the edit's own tests, the
+-- table's, the record's
+unfoldable pub verdict_of : Edit → Account → List ℕ → ℕ → ℕ → Verdict
+verdict_of ed a image words bytes =
+    first (opening image words) (first (team_verdict a.team) (counted_verdict (plan_of ed (disc_of image)) a image words bytes))
 
 -- the image afterwards: a refused edit leaves it as it is
-unfoldable pub image_after : Edit → Totals → List ℕ → ℕ → ℕ → List ℕ
-image_after ed t image words bytes = if is_err (verdict_of ed t image words bytes) then image else plan_image (plan_of ed (disc_of image)) image
+unfoldable pub image_after : Edit → Account → List ℕ → ℕ → ℕ → List ℕ
+image_after ed a image words bytes = if is_err (verdict_of ed a image words bytes) then image else plan_image (plan_of ed (disc_of image)) image
 
--- the record moved to the totals of the new image
-abbrev pub totals_to : Totals → List ℕ → List ℕ → Totals
-totals_to t image new = moved_totals t (used_of image) (used_of new) (largest_size (free_space_of new))
+-- the record moved on to the new image
+abbrev pub totals_to : Account → List ℕ → List ℕ → Totals
+totals_to a image new = moved_totals a.totals a.team (space_change image new)
 
 -- the record afterwards; a refused edit leaves it as it was
-unfoldable pub totals_after : Edit → Totals → List ℕ → ℕ → ℕ → Totals
-totals_after ed t image words bytes = if is_err (verdict_of ed t image words bytes) then t else totals_to t image (plan_image (plan_of ed (disc_of image)) image)
+unfoldable pub totals_after : Edit → Account → List ℕ → ℕ → ℕ → Totals
+totals_after ed a image words bytes =
+    if is_err (verdict_of ed a image words bytes) then a.totals else totals_to a image (plan_image (plan_of ed (disc_of image)) image)
 
 -- the answer of an edit that gives an entry's number
 abbrev pub plan_number : Plan → ℕ

@@ -4,54 +4,66 @@ use Rattle.std.specs.Prelude.{Result, Ok, ℕ, ◌≡◌, ◌++◌, nat_lt, if�
 use Rattle.refusal.specs.declared.Refusal.{Refusal}
 use Rattle.refusal.specs.declared.Refusal.TheVariants.{LimitOrMemory}
 use Rattle.refusal.specs.Refusal.{Verdict, refuse}
-use Rattle.space.specs.declared.totals.Totals.{Totals}
+use Rattle.totals.specs.declared.Totals.{Totals}
 use Rattle.opened.specs.Opening.{zeros, opening, disc_of}
 use Rattle.disc.specs.Calls.{record_answer}
-use Rattle.edit_rules.specs.Edits.{Edit, plan_of, plan_number, number_behind, verdict_of, image_after, totals_after}
+use Rattle.edit_rules.specs.Edits.{Edit, account, plan_of, plan_number, number_behind, verdict_of, image_after, totals_after}
 use Rattle.edit_rules.specs.Promise.{Loan}
 use Rattle.ledger.specs.Ledger.{first_ledger, Report, ledger_after}
 use Rattle.ledger.specs.Runs.{Call, image_after_all, reports_of, totals_after_all, accepted_count}
-use Rattle.ledger.specs.Theorem.{LedgerHolds, Tells}
+use Rattle.ledger.specs.Theorem.{LedgerHolds, Tells, IsFairStart, SharesHold, SharesSuffice}
 
--- each edit in turn, on the image and with the record that the one before left, and all with the same working words and bytes
-unfoldable pub calls_of : List Edit → Totals → List ℕ → ℕ → ℕ → List Call
+-- an edit, and the team whose turn it is
+pub record Turn : Type 0 where
+  pub team : ℕ
+  pub edit : Edit
+
+-- each in turn, on the image and with the record that the one before left, and all with the same working words and bytes
+unfoldable pub calls_of : List Turn → Totals → List ℕ → ℕ → ℕ → List Call
 calls_of [] t image words bytes = []
-calls_of (ed ∷ edits) t image words bytes =
-    record { edit = ed; totals = t; words = words; bytes = bytes }
-    ∷ calls_of edits (totals_after ed t image words bytes) (image_after ed t image words bytes) words bytes
+calls_of (x ∷ turns) t image words bytes =
+    record { edit = x.edit; account = account t x.team; words = words; bytes = bytes }
+    ∷ calls_of turns (totals_after x.edit (account t x.team) image words bytes) (image_after x.edit (account t x.team) image words bytes) words bytes
 
 -- what each call gives back: the number of the entry, or why it is refused
 unfoldable pub answers_of : List Call → List ℕ → List (Result ℕ Refusal)
 answers_of [] image = []
 answers_of (c ∷ calls) image =
-    number_behind (verdict_of c.edit c.totals image c.words c.bytes) (plan_number (plan_of c.edit (disc_of image)))
-    ∷ answers_of calls (image_after c.edit c.totals image c.words c.bytes)
+    number_behind (verdict_of c.edit c.account image c.words c.bytes) (plan_number (plan_of c.edit (disc_of image)))
+    ∷ answers_of calls (image_after c.edit c.account image c.words c.bytes)
 
--- the calls of a list that has room for so many answers: with room for fewer than there are edits there is none
-abbrev pub calls_with : ℕ → List Edit → Loan → List Call
-calls_with room edits l = if nat_lt room (length edits) then [] else calls_of edits l.totals l.image (length l.words) (length l.bytes)
+-- the calls of a list that has room for so many answers: with room for fewer than there are turns there is none
+abbrev pub calls_with : ℕ → List Turn → Loan → List Call
+calls_with room turns l = if nat_lt room (length turns) then [] else calls_of turns l.totals l.image (length l.words) (length l.bytes)
 
 -- what the ledger is told of them
-abbrev pub reports_with : ℕ → List Edit → Loan → List Report
-reports_with room edits l = reports_of (calls_with room edits l) l.image
+abbrev pub reports_with : ℕ → List Turn → Loan → List Report
+reports_with room turns l = reports_of (calls_with room turns l) l.image
 
--- every byte of the image, the record, each answer, and the working memory, which is zero; answers beyond the edits stay as they were
-pub record AppliesInTurn (edits : List Edit) (before after : Loan) (old new : List (Result ℕ Refusal)) (r : Verdict) : Type 0 where
-  pub verdict : r ≡ refuse (nat_lt (length old) (length edits)) LimitOrMemory (Ok tt)
-  pub image : after.image ≡ image_after_all (calls_with (length old) edits before) before.image
-  pub totals : after.totals ≡ totals_after_all before.totals (calls_with (length old) edits before) before.image
-  pub answers : new ≡ answers_of (calls_with (length old) edits before) before.image ++ drop (length (calls_with (length old) edits before)) old
+-- every byte of the image, the record, each answer, and the working memory, which is zero; answers beyond the turns stay as they were
+pub record AppliesInTurn (turns : List Turn) (before after : Loan) (old new : List (Result ℕ Refusal)) (r : Verdict) : Type 0 where
+  pub verdict : r ≡ refuse (nat_lt (length old) (length turns)) LimitOrMemory (Ok tt)
+  pub image : after.image ≡ image_after_all (calls_with (length old) turns before) before.image
+  pub totals : after.totals ≡ totals_after_all before.totals (calls_with (length old) turns before) before.image
+  pub answers : new ≡ answers_of (calls_with (length old) turns before) before.image ++ drop (length (calls_with (length old) turns before)) old
   pub words : after.words ≡ zeros before.words
   pub bytes : after.bytes ≡ zeros before.bytes
 
 -- an image that opens with the lent words: what holds after any list of calls holds of the image afterwards, by the ledger of these reports
-abbrev pub LedgerHoldsAfter : ℕ → List Edit → Loan → Loan → Type 0
-LedgerHoldsAfter room edits before after =
+abbrev pub LedgerHoldsAfter : ℕ → List Turn → Loan → Loan → Type 0
+LedgerHoldsAfter room turns before after =
     opening before.image (length before.words) ≡ Ok tt →
-    LedgerHolds (length before.words) before.image after.image (ledger_after (reports_with room edits before) (first_ledger before.image))
+    LedgerHolds (length before.words) before.image after.image (ledger_after (reports_with room turns before) (first_ledger before.image))
 
--- a record that was made of the image with the lent words: it tells what one made afresh would, and how many edits were accepted since
-abbrev pub TellsAfter : ℕ → List Edit → Loan → Loan → Type 0
-TellsAfter room edits before after =
-    record_answer before.image (length before.words) ≡ Ok before.totals →
-    Tells after.image (length before.words) (accepted_count (reports_with room edits before)) after.totals
+-- a record that was made of the image with the lent words: it tells what one made afresh would, and how many edits of each team were accepted since
+abbrev pub TellsAfter : ℕ → List Turn → Loan → Loan → Type 0
+TellsAfter room turns before after =
+    (limits shares : List ℕ) → length limits ≡ 16 → length shares ≡ 16 →
+    record_answer before.image (length before.words) limits shares ≡ Ok before.totals →
+    Tells after.image (length before.words) (λ k. accepted_count k (calls_with room turns before) before.image) after.totals
+
+-- an image that opens with the lent words, nothing taken and all shares free: the shares hold, and suffice at each turn
+abbrev pub SharesHoldAfter : ℕ → List Turn → Loan → Loan → Type 0
+SharesHoldAfter room turns before after =
+    opening before.image (length before.words) ≡ Ok tt → IsFairStart before.image before.totals →
+    SharesHold before.totals after.image after.totals × SharesSuffice (calls_with room turns before) before.image

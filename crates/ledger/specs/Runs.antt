@@ -1,28 +1,29 @@
 -- A list of calls on an image: the image after it, what the ledger is told of it, and the record that is handed on through it. Assumes nothing: these are definitions.
-use Rattle.std.specs.Prelude.{ℕ, ◌+◌, ◌^◌, ◌<◌, ◌≤◌, ◌≡◌, not, List, [], ◌∷◌, if◌then◌else◌, is_err}
+use Rattle.std.specs.Prelude.{ℕ, ◌+◌, ◌^◌, ◌<◌, ◌≤◌, ◌≡◌, ◌==◌, ◌&&◌, not, List, [], ◌∷◌, if◌then◌else◌, is_err, is_ok}
 use Rattle.endian.specs.Bytes.{AllBytes}
-use Rattle.space.specs.declared.totals.Totals.{Totals}
-use Rattle.edit_rules.specs.Edits.{Edit, insert_file, insert_directory, make_directories, move_file, resize_file, fill_file, rewrite, verdict_of, image_after, totals_after}
+use Rattle.totals.specs.declared.Totals.{Totals}
+use Rattle.edit_rules.specs.Edits.{Edit, Account, insert_file, insert_directory, make_directories, move_file, resize_file, fill_file, rewrite, verdict_of, image_after, totals_after}
 use Rattle.ledger.specs.Ledger.{Report}
 
--- a call: an edit, the record that it is handed, which may hold anything, and how many working words and bytes it is lent
+-- a call: an edit, the record that it is handed, which may hold anything, with the team that it carries, and how many working words and bytes
+-- it is lent
 pub record Call : Type 0 where
   pub edit : Edit
-  pub totals : Totals
+  pub account : Account
   pub words : ℕ
   pub bytes : ℕ
 
 -- each call works on the image that the calls before it left
 unfoldable pub image_after_all : List Call → List ℕ → List ℕ
 image_after_all [] image = image
-image_after_all (c ∷ calls) image = image_after_all calls (image_after c.edit c.totals image c.words c.bytes)
+image_after_all (c ∷ calls) image = image_after_all calls (image_after c.edit c.account image c.words c.bytes)
 
 -- each call's edit, and whether it was accepted
 unfoldable pub reports_of : List Call → List ℕ → List Report
 reports_of [] image = []
 reports_of (c ∷ calls) image =
-    record { edit = c.edit; accepted = not (is_err (verdict_of c.edit c.totals image c.words c.bytes)) }
-    ∷ reports_of calls (image_after c.edit c.totals image c.words c.bytes)
+    record { edit = c.edit; accepted = not (is_err (verdict_of c.edit c.account image c.words c.bytes)) }
+    ∷ reports_of calls (image_after c.edit c.account image c.words c.bytes)
 
 -- ---- the record
 
@@ -30,19 +31,21 @@ reports_of (c ∷ calls) image =
 unfoldable pub totals_after_all : Totals → List Call → List ℕ → Totals
 totals_after_all t [] image = t
 totals_after_all t (c ∷ calls) image =
-    totals_after_all (totals_after c.edit c.totals image c.words c.bytes) calls (image_after c.edit c.totals image c.words c.bytes)
+    totals_after_all (totals_after c.edit c.account image c.words c.bytes) calls (image_after c.edit c.account image c.words c.bytes)
 
 -- t goes into the first call, and what a call hands back into the next, on the image that it left; the images
 -- are those of `image_after_all`
 abbrev pub IsHandedOn : Totals → List Call → List ℕ → Type 0
 IsHandedOn t [] image = Unit {0}
 IsHandedOn t (c ∷ calls) image =
-    (c.totals ≡ t) × IsHandedOn (totals_after c.edit c.totals image c.words c.bytes) calls (image_after c.edit c.totals image c.words c.bytes)
+    (c.account.totals ≡ t) × IsHandedOn (totals_after c.edit c.account image c.words c.bytes) calls (image_after c.edit c.account image c.words c.bytes)
 
--- how many edits were accepted
-unfoldable pub accepted_count : List Report → ℕ
-accepted_count [] = 0
-accepted_count (r ∷ reports) = (if r.accepted then 1 else 0) + accepted_count reports
+-- how many edits of team k were accepted
+unfoldable pub accepted_count : ℕ → List Call → List ℕ → ℕ
+accepted_count k [] image = 0
+accepted_count k (c ∷ calls) image =
+    (if c.account.team == k && is_ok (verdict_of c.edit c.account image c.words c.bytes) then 1 else 0)
+    + accepted_count k calls (image_after c.edit c.account image c.words c.bytes)
 
 -- ---- what a call may be
 

@@ -1,9 +1,9 @@
 -- What holds after any list of calls, as one claim about the list: of the last image, by the list's ledger;
--- of a file that no accepted edit named, of one just filled, of a record handed on, of the stated maximum
+-- of a file that no accepted edit named, of one just filled, of a record handed on, of teams, of the stated maximum
 -- (RULES, After any list of edits). Proved in proofs/Laws: `ledger-holds` and `unnamed-stays` of
--- AfterAnyList, `fill-reads` of FillReads, `record-tells` of RecordTells, `maximum-kept` of MaximumKept.
+-- AfterAnyList, `fill-reads` of FillReads, `record-tells` of RecordTells, `teams-served` of TeamsServed, `maximum-kept` of MaximumKept.
 -- Assumes nothing: these are definitions.
-use Rattle.std.specs.Prelude.{Ok, slice_index_or}
+use Rattle.std.specs.Prelude.{Ok, Err, ¬, slice_index_or, sum_by}
 use Rattle.std.specs.Prelude.{ℕ, ◌+◌, ◌<◌, ◌≤◌, ◌≡◌, true, false, List, map, length, take}
 use Rattle.endian.specs.Bytes.{put, span, AllBytes}
 use Rattle.header.specs.Verdicts.{dol_offset, fst_size, fst_max_size, table_end, disc_end}
@@ -11,12 +11,14 @@ use Rattle.tree.specs.Table.{file, empty_root}
 use Rattle.space.specs.Used.{end_of, is_inside, total_size, no_region}
 use Rattle.space.specs.Listing.{region_row, listing_of, list_after}
 use Rattle.executable.specs.Program.{program_of, program_in, program_behind}
-use Rattle.space.specs.declared.totals.Totals.{Totals}
-use Rattle.opened.specs.Opening.{table_of, nodes_in, region_of, used_in, free_space_of, opening}
+use Rattle.refusal.specs.declared.Refusal.TheVariants.{FreeBelowShares}
+use Rattle.totals.specs.declared.Totals.{Totals}
+use Rattle.totals.specs.Totals.{team_of, new_teams, remainders}
+use Rattle.opened.specs.Opening.{table_of, nodes_in, region_of, used_in, used_of, free_space_of, opening, disc_of}
 use Rattle.disc.specs.Calls.{totals_answer, program_answer, free_regions_answer, free_regions_list, totals_of, record_answer}
 use Rattle.window.specs.Window.{new_window, count_of, buffer_of}
 use Rattle.disc.specs.Files.{open_file_answer}
-use Rattle.edit_rules.specs.Edits.{fill_file, verdict_of, image_after}
+use Rattle.edit_rules.specs.Edits.{Account, fill_file, plan_of, plan_image, verdict_of, image_after}
 use Rattle.ledger.specs.Ledger.{Ledger, node_without_place, files_before, history_of, first_ledger, ledger_after}
 use Rattle.ledger.specs.Runs.{Call, image_after_all, reports_of, totals_after_all, IsHandedOn, accepted_count, AllWithin}
 use Rattle.ledger.specs.Spared.{number_after, IsSpared}
@@ -94,21 +96,59 @@ pub record ShowsClip (image : List ℕ) (w k : ℕ) (clip : List ℕ) : Type 0 w
 -- THEOREM: an accepted fill, and w words, which are no fewer than it was lent
 abbrev pub FillReads : Type 0
 FillReads =
-    (totals : Totals) (image clip : List ℕ) (k words bytes w : ℕ) → AllBytes image → AllBytes clip → words ≤ w → verdict_of (fill_file k clip) totals image words bytes ≡ Ok tt →
-    ShowsClip (image_after (fill_file k clip) totals image words bytes) w k clip
+    (a : Account) (image clip : List ℕ) (k words bytes w : ℕ) → AllBytes image → AllBytes clip → words ≤ w → verdict_of (fill_file k clip) a image words bytes ≡ Ok tt →
+    ShowsClip (image_after (fill_file k clip) a image words bytes) w k clip
 
--- ---- a record that is handed on tells what one made afresh would, and how many edits were accepted
+-- ---- a record that is handed on tells what one made afresh would, and how many edits of each team were accepted
 
--- the record t, of an image, after n accepted edits: what a record made of the image with w words says, and n
-pub record Tells (image : List ℕ) (w n : ℕ) (t : Totals) : Type 0 where
-  pub totals : t ≡ totals_of image n
-  pub afresh : record_answer image w ≡ Ok (totals_of image 0)
+-- the record t, of an image, after so many accepted edits of each team: what a record made of the image with w words says, and the counts
+pub record Tells (image : List ℕ) (w : ℕ) (count : ℕ → ℕ) (t : Totals) : Type 0 where
+  pub totals : t ≡ totals_of image t.teams
+  pub afresh : (limits shares : List ℕ) → record_answer image w limits shares ≡ Ok (totals_of image (new_teams limits shares))
+  pub counts : (k : ℕ) → k < 16 → (team_of t k).edits ≡ count k
 
--- THEOREM: a record that was made of the first image, and any list of calls through which it is handed on
+-- THEOREM: a record that was made of the first image for 16 teams, and any list of calls through which it is handed on
 abbrev pub RecordTells : Type 0
 RecordTells =
-    (image : List ℕ) (w₀ w : ℕ) (t : Totals) (calls : List Call) → AllBytes image → record_answer image w₀ ≡ Ok t → w₀ ≤ w → AllWithin w calls → IsHandedOn t calls image →
-    Tells (image_after_all calls image) w (accepted_count (reports_of calls image)) (totals_after_all t calls image)
+    (image : List ℕ) (w₀ w : ℕ) (limits shares : List ℕ) (t : Totals) (calls : List Call) → AllBytes image → length limits ≡ 16 → length shares ≡ 16 → record_answer image w₀ limits shares ≡ Ok t → w₀ ≤ w →
+    AllWithin w calls → IsHandedOn t calls image →
+    Tells (image_after_all calls image) w (λ k. accepted_count k calls image) (totals_after_all t calls image)
+
+-- ---- teams that edit by turns: each has its share, and none passes its limit
+
+-- at the start nothing is taken, and the free bytes are at least all shares together
+pub record IsFairStart (image : List ℕ) (t : Totals) : Type 0 where
+  pub nothing-taken : (k : ℕ) → (team_of t k).taken ≡ 0
+  pub shares-free : sum_by (λ m. m.share) t.teams ≤ total_size (free_space_of image)
+
+-- what the call's team has taken and what the call costs, by the image that it plans, are within the team's share
+abbrev pub IsWithinShare : Call → List ℕ → Type 0
+IsWithinShare c image =
+    (team_of c.account.totals c.account.team).taken + used_of (plan_image (plan_of c.edit (disc_of image)) image)
+    ≤ (team_of c.account.totals c.account.team).share + used_of image
+
+-- at each place of the list such a call does not meet 28
+abbrev pub SharesSuffice : List Call → List ℕ → Type 0
+SharesSuffice [] image = Unit {0}
+SharesSuffice (c ∷ calls) image =
+    (IsWithinShare c image → ¬ (verdict_of c.edit c.account image c.words c.bytes ≡ Err FreeBelowShares))
+    × SharesSuffice calls (image_after c.edit c.account image c.words c.bytes)
+
+-- of the image and the record after the list; t₀ is the record before it
+pub record SharesHold (t₀ : Totals) (image : List ℕ) (t : Totals) : Type 0 where
+  -- the free bytes are at least what all teams have not yet taken of their shares
+  pub shares-free : remainders t.teams ≤ total_size (free_space_of image)
+  -- no team has taken more than its limit
+  pub within-limits : (k : ℕ) → (team_of t k).taken ≤ (team_of t k).limit
+  -- limits and shares are those that were given
+  pub same-limits : (k : ℕ) → (team_of t k).limit ≡ (team_of t₀ k).limit
+  pub same-shares : (k : ℕ) → (team_of t k).share ≡ (team_of t₀ k).share
+
+-- THEOREM: such a start, and any list of calls through which the record is handed on
+abbrev pub TeamsServed : Type 0
+TeamsServed =
+    (image : List ℕ) (w₀ w : ℕ) (t : Totals) (calls : List Call) → AllBytes image → opening image w₀ ≡ Ok tt → w₀ ≤ w → AllWithin w calls → IsHandedOn t calls image → IsFairStart image t →
+    SharesHold t (image_after_all calls image) (totals_after_all t calls image) × SharesSuffice calls image
 
 -- ---- no edit writes a table above the stated maximum
 

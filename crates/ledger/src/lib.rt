@@ -3,7 +3,8 @@
 // in proofs/Laws/.
 #![tactic(auto)]
 
-ghost use Rattle.ledger.specs.Theorem.{AnyList, UnnamedStays, FillReads, RecordTells, MaximumKept};
+ghost use Rattle.ledger.specs.Theorem.{AnyList, UnnamedStays, FillReads, RecordTells, TeamsServed};
+ghost use Rattle.ledger.specs.Theorem.{MaximumKept};
 
 // After any list of calls the image opens, the ledger holds, and no two used regions share a byte.
 pub fn any_list()
@@ -23,6 +24,12 @@ pub fn fill_reads()
 // A record handed on through the list is that of the last image.
 pub fn record_tells()
     ensures { RecordTells }
+{}
+
+// Teams that start with nothing taken and their shares free have their shares throughout, and none passes its
+// limit.
+pub fn teams_served()
+    ensures { TeamsServed }
 {}
 
 // No edit writes a table above the stated maximum.

@@ -40,10 +40,12 @@ pub enum Refusal {
     InvalidDol = 24,
     TotalsOutOfRange = 25,
     TableAboveMaximum = 26,
+    TakenAboveLimit = 27,
+    FreeBelowShares = 28,
 }
 
 impl Refusal {
-    /// The number of the cause, 1 to 26.
+    /// The number of the cause, 1 to 28.
     pub fn number(self) -> u32
         ensures { result ≡ number_of self }
     {
@@ -82,6 +84,8 @@ impl fmt::Display for Refusal {
             Refusal::InvalidDol => "DOL header past the image, or a sum above 2^32 - 1",
             Refusal::TotalsOutOfRange => "used bytes or edit count would leave 0 to 2^32 - 1",
             Refusal::TableAboveMaximum => "new table above the maximum",
+            Refusal::TakenAboveLimit => "taken bytes above the team's limit",
+            Refusal::FreeBelowShares => "free bytes below the other teams' shares",
         })
     }
 }

@@ -52,6 +52,8 @@ impl TryFrom<u32> for Refusal {
             24 => Ok(Refusal::InvalidDol),
             25 => Ok(Refusal::TotalsOutOfRange),
             26 => Ok(Refusal::TableAboveMaximum),
+            27 => Ok(Refusal::TakenAboveLimit),
+            28 => Ok(Refusal::FreeBelowShares),
             _ => Err(NoCause(number)),
         }
     }

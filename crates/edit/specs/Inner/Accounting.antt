@@ -7,13 +7,14 @@ use Rattle.space.specs.declared.region.DiscRegion.{DiscRegion}
 use Rattle.space.specs.Used.{no_region}
 use Rattle.space.specs.Inner.Sort.{regions_in}
 use Rattle.opened.specs.Inner.Prepared.{IsOpen}
-use Rattle.opened.specs.Opening.{Disc}
+use Rattle.opened.specs.Opening.{Disc, used_of}
 use Rattle.opened.specs.Inner.Disc.{Opened, Means}
-use Rattle.space.specs.declared.totals.Totals.{Totals}
-use Rattle.space.specs.Totals.{totals_verdict, moved_totals}
-use Rattle.space.specs.Inner.Scan.{longest_from, gone_of, Moved, moved_as}
+use Rattle.totals.specs.declared.Totals.{Totals}
+use Rattle.totals.specs.declared.SpaceChange.{SpaceChange}
+use Rattle.totals.specs.Totals.{totals_verdict, moved_totals}
+use Rattle.space.specs.Inner.Scan.{longest_from, gone_of}
 use Rattle.edit_rules.specs.Change.{Plan}
-use Rattle.edit_rules.specs.Edits.{plan_image, counted_verdict, totals_to}
+use Rattle.edit_rules.specs.Edits.{Account, plan_image, counted_verdict, totals_to}
 use Rattle.edit.specs.declared.decision.Decision.{Decision}
 use Rattle.edit.specs.declared.decision.Decision.TheVariants as decision
 use Rattle.edit.specs.Inner.Decision.{DecidedAs}
@@ -33,6 +34,43 @@ pub record OfUsed (d : Opened) (P : List ℕ → List DiscRegion → Type 0) : T
   pub held : (image : List ℕ) → Means image d → IsOpen image words count
   pub is : (image : List ℕ) → Means image d → P image (regions_in words 1 (count - 1))
 
+-- ---- what a decision does to used and free bytes, and to the record
+
+-- whether the record can move on, and the record then
+pub record Moved : Type 0 where
+  pub verdict : Verdict
+  pub totals : Totals
+
+abbrev pub moved_with : Verdict → Totals → Moved
+moved_with v t = record { verdict = v; totals = t }
+
+-- by the verdict: the next record, or the one that came in
+abbrev pub moved_as : Verdict → Totals → Totals → Moved
+moved_as (Ok _) t next = moved_with (Ok tt) next
+moved_as (Err c) t next = moved_with (Err c) t
+
+abbrev pub moved_by : Account → SpaceChange → Moved
+moved_by a x = moved_as (totals_verdict a.totals a.team x) a.totals (moved_totals a.totals a.team x)
+
+-- the new table has `size` bytes, and the edited file goes from `old` to `new`; xs are the used regions behind the table, in order. Used bytes
+-- move from `before` to `after`, in two numbers with that difference
+abbrev pub change_as : List ℕ → List DiscRegion → ℕ → DiscRegion → DiscRegion → SpaceChange
+change_as image xs size old new = record {
+  before = fst_size image + old.size;
+  after = size + new.size;
+  free = disc_end image + (fst_size image + old.size) - (used_of image + (size + new.size));
+  largest = longest_from (disc_end image) (gone_of old) new (fst_offset image + size) 0 xs;
+}
+
+-- by what is decided on
+abbrev pub change_for : List ℕ → List DiscRegion → Decision → SpaceChange
+change_for image xs decision.Nothing = change_as image xs (fst_size image) no_region no_region
+change_for image xs (decision.Clip n at) = change_as image xs (fst_size image) no_region no_region
+change_for image xs (decision.Write n size w) = change_as image xs size w.old w.place
+
+abbrev pub entered_for : List ℕ → List DiscRegion → Decision → Account → Moved
+entered_for image xs d a = moved_by a (change_for image xs d)
+
 -- what is decided on once the record is tested too, and the record then
 pub record Accounted : Type 0 where
   pub decision : Result Decision Refusal
@@ -49,30 +87,15 @@ decision_unless (Err c) d = Err c
 abbrev pub settled_as : Decision → Moved → Accounted
 settled_as d m = account_with (decision_unless m.verdict d) m.totals
 
--- used bytes move from `before` to `after`, in any two numbers with that difference
-abbrev pub moved_by : Totals → ℕ → ℕ → ℕ → Moved
-moved_by t before after largest = moved_as (totals_verdict t before after) t (moved_totals t before after largest)
-
--- the new table has `size` bytes, and the edited file goes from `old` to `new`; xs are the used regions behind the table, in order
-abbrev pub entered_as : List ℕ → List DiscRegion → Totals → ℕ → DiscRegion → DiscRegion → Moved
-entered_as image xs t size old new =
-    moved_by t (fst_size image + old.size) (size + new.size) (longest_from (disc_end image) (gone_of old) new (fst_offset image + size) 0 xs)
-
--- by what is decided on
-abbrev pub entered_for : List ℕ → List DiscRegion → Decision → Totals → Moved
-entered_for image xs decision.Nothing t = entered_as image xs t (fst_size image) no_region no_region
-entered_for image xs (decision.Clip n at) t = entered_as image xs t (fst_size image) no_region no_region
-entered_for image xs (decision.Write n size w) t = entered_as image xs t size w.old w.place
-
-abbrev pub account_of : List ℕ → List DiscRegion → Result Decision Refusal → Totals → Accounted
-account_of image xs (Err c) t = account_with (Err c) t
-account_of image xs (Ok d) t = settled_as d (entered_for image xs d t)
+abbrev pub account_of : List ℕ → List DiscRegion → Result Decision Refusal → Account → Accounted
+account_of image xs (Err c) a = account_with (Err c) a.totals
+account_of image xs (Ok d) a = settled_as d (entered_for image xs d a)
 
 -- the record afterwards
-abbrev pub counted_totals : Plan → Totals → List ℕ → ℕ → ℕ → Totals
-counted_totals p t image words room = if is_err (counted_verdict p t image words room) then t else totals_to t image (plan_image p image)
+abbrev pub counted_totals : Plan → Account → List ℕ → ℕ → ℕ → Totals
+counted_totals p a image words room = if is_err (counted_verdict p a image words room) then a.totals else totals_to a image (plan_image p image)
 
--- a, with these working bytes and this clip, is what the plan comes to by all its tests, 25 too, where the record t went in
-pub record IsAccountedFor (p : Plan) (image : List ℕ) (words room : ℕ) (bytes clip : List ℕ) (t : Totals) (a : Accounted) : Type 0 where
-  pub decided : DecidedAs (counted_verdict p t image words room) p image room bytes clip a.decision
-  pub totals : a.totals ≡ counted_totals p t image words room
+-- x, with these working bytes and this clip, is what the plan comes to by all its tests, the record's too, where the account a went in
+pub record IsAccountedFor (p : Plan) (image : List ℕ) (words room : ℕ) (bytes clip : List ℕ) (a : Account) (x : Accounted) : Type 0 where
+  pub decided : DecidedAs (counted_verdict p a image words room) p image room bytes clip x.decision
+  pub totals : x.totals ≡ counted_totals p a image words room

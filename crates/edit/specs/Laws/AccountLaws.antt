@@ -12,11 +12,11 @@ use Rattle.space.specs.Used.{used_regions, total_size, no_region}
 use Rattle.space.specs.Free.{largest_size}
 use Rattle.space.specs.Inner.Sort.{regions_in}
 use Rattle.space.specs.Laws.TotalLaws.{total-used}
-use Rattle.space.specs.declared.totals.Totals.{Totals}
-use Rattle.space.specs.Totals.{totals_verdict}
+use Rattle.totals.specs.declared.Totals.{Totals}
+use Rattle.totals.specs.Totals.{totals_verdict}
 use Rattle.space.specs.Inner.Scan.{longest_from, gone_of}
 use Rattle.space.specs.Laws.LargestLaws.{largest-after}
-use Rattle.space.specs.Laws.TotalsLaws.{same-verdict, same-moved}
+use Rattle.totals.specs.Laws.TotalsLaws.{same-verdict, same-moved}
 use Rattle.executable.specs.Program.{program_behind}
 use Rattle.opened.specs.Opening.{nodes_in, regions_behind_table, used_in, used_of, free_space_of, Disc, disc_of}
 use Rattle.opened.proofs.Laws.OpeningLaws.{used-regions}

@@ -3,7 +3,7 @@ use Rattle.std.specs.Prelude.{Ok, ℕ, ◌≡◌, List}
 use Rattle.std.proofs.Common.{arith}
 use Rattle.endian.specs.Bytes.{AllBytes}
 use Rattle.header.specs.Verdicts.{fst_offset}
-use Rattle.space.specs.declared.totals.Totals.{Totals}
+use Rattle.totals.specs.declared.Totals.{Totals}
 use Rattle.opened.specs.Opening.{table_of, nodes_in, disc_of}
 use Rattle.edit_rules.specs.Change.{written_image}
 use Rattle.edit_rules.specs.Edits.{rewrite, table_change, plan_of, verdict_of, image_after}

@@ -3,8 +3,8 @@ use Rattle.std.specs.Prelude.{Ok, Err}
 use Rattle.std.specs.Prelude.{ℕ, ◌≡◌, List}
 use Rattle.refusal.specs.declared.Refusal.{Refusal}
 use Rattle.refusal.specs.Laws.Chains.{first-passed}
-use Rattle.space.specs.declared.totals.Totals.{Totals}
-use Rattle.space.specs.Totals.{totals_verdict}
+use Rattle.totals.specs.declared.Totals.{Totals}
+use Rattle.totals.specs.Totals.{totals_verdict}
 use Rattle.opened.specs.Opening.{opening, used_of, disc_of}
 use Rattle.edit_rules.specs.Change.{Plan}
 use Rattle.edit_rules.specs.Edits.{Edit, plan_of, plan_verdict, plan_image, counted_verdict, verdict_of, image_after, totals_after}

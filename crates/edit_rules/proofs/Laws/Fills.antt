@@ -10,7 +10,7 @@ use Rattle.endian.specs.Laws.Stored.{put-none}
 use Rattle.refusal.specs.declared.Refusal.TheVariants.{NotEnoughSpace}
 use Rattle.refusal.specs.Refusal.{refuse, first}
 use Rattle.tree.specs.Table.{empty_root}
-use Rattle.space.specs.declared.totals.Totals.{Totals}
+use Rattle.totals.specs.declared.Totals.{Totals}
 use Rattle.opened.specs.Opening.{nodes_in, free_space_of, region_of, disc_of}
 use Rattle.edit_rules.specs.Change.{Plan, nothing, filled}
 use Rattle.edit_rules.specs.Edits.{resize_file, fill_file, plan_behind, file_verdict, plan_sized, plan_resize, plan_fill, plan_of, plan_verdict, plan_image, counted_verdict, verdict_of, image_after}

@@ -9,8 +9,8 @@ use Rattle.refusal.specs.declared.Refusal.TheVariants.{LimitOrMemory}
 use Rattle.refusal.specs.Refusal.{refuse, first}
 use Rattle.header.specs.Verdicts.{fst_max_size}
 use Rattle.tree.specs.Table.{encode, limits}
-use Rattle.space.specs.declared.totals.Totals.{Totals}
-use Rattle.space.specs.Totals.{totals_verdict}
+use Rattle.totals.specs.declared.Totals.{Totals}
+use Rattle.totals.specs.Totals.{totals_verdict}
 use Rattle.opened.specs.Opening.{opening, used_of, disc_of}
 use Rattle.edit_rules.specs.Change.{room_verdict, table_verdict, Plan, refused, nothing, change, filled}
 use Rattle.edit_rules.specs.Edits.{Edit, plan_of, plan_verdict, plan_image, totals_to, counted_verdict, verdict_of, image_after, totals_after}

@@ -8,7 +8,7 @@ use Rattle.refusal.specs.declared.Refusal.{Refusal}
 use Rattle.refusal.specs.declared.Refusal.TheVariants.{LimitOrMemory, InvalidNameByte, UnsafeName, NoSuchEntry, ExpectedFile, ExpectedDirectory, AlreadyExists, NotEnoughSpace}
 use Rattle.tree.specs.Table.{empty_root, is_plain, is_safe}
 use Rattle.tree.specs.Lookup.{is_directory, child_of}
-use Rattle.space.specs.declared.totals.Totals.{Totals}
+use Rattle.totals.specs.declared.Totals.{Totals}
 use Rattle.opened.specs.Opening.{opening, nodes_in}
 use Rattle.edit_rules.specs.Edits.{insert_file, insert_directory, make_directories, fill_file, insert_verdict, plan_make_directories, plan_fill, verdict_of}
 use Rattle.edit_rules.proofs.Laws.Accepted.{own_first}

@@ -6,7 +6,7 @@ use Rattle.std.proofs.lemmas.Bool.{false≢true}
 use Rattle.std.proofs.Common.{arith, ne_eqb}
 use Rattle.endian.specs.Bytes.{AllBytes}
 use Rattle.header.specs.Verdicts.{fst_size, fst_max_size}
-use Rattle.space.specs.declared.totals.Totals.{Totals}
+use Rattle.totals.specs.declared.Totals.{Totals}
 use Rattle.opened.specs.Opening.{table_of}
 use Rattle.edit_rules.specs.Edits.{Edit, insert_file, insert_directory, make_directories, move_file, resize_file, fill_file, rewrite, totals_after}
 use Rattle.ledger.specs.Ledger.{Ledger, files_before, Report}

@@ -10,7 +10,7 @@ use Rattle.refusal.specs.Laws.Chains.{first-passed}
 use Rattle.tree.specs.Table.{file, empty_root}
 use Rattle.tree.specs.Lookup.{is_directory}
 use Rattle.space.specs.declared.region.DiscRegion.{DiscRegion}
-use Rattle.space.specs.declared.totals.Totals.{Totals}
+use Rattle.totals.specs.declared.Totals.{Totals}
 use Rattle.opened.specs.Opening.{nodes_in, free_space_of, opening}
 use Rattle.edit_rules.specs.Edits.{Edit, insert_file, insert_directory, make_directories, move_file, resize_file, fill_file, rewrite, file_verdict, relocate_verdict, clip_verdict, plan_move, plan_resize, plan_fill, verdict_of, image_after}
 use Rattle.edit_rules.proofs.Laws.Accepted.{accepted}

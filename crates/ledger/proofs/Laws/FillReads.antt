@@ -9,7 +9,7 @@ use borrow.Author.Tests.{lt-ltb}
 use Rattle.endian.specs.Bytes.{put, AllBytes}
 use Rattle.refusal.specs.Laws.Tests.{lt-or-le}
 use Rattle.tree.specs.Table.{Node, file, empty_root}
-use Rattle.space.specs.declared.totals.Totals.{Totals}
+use Rattle.totals.specs.declared.Totals.{Totals}
 use Rattle.window.specs.Window.{new_window, count_of, buffer_of}
 use Rattle.disc.specs.Files.{open_file_answer, entry_answer}
 use Rattle.opened.specs.Opening.{nodes_in, free_space_of, opening}

@@ -6,7 +6,7 @@ use Rattle.std.specs.Prelude.{ℕ, ◌+◌, ◌^◌, ◌<◌, ◌≤◌, ◌≡�
 use Rattle.std.proofs.Common.{◌∙◌, arith}
 use Rattle.endian.specs.Bytes.{put, AllBytes}
 use Rattle.tree.specs.Table.{empty_root}
-use Rattle.space.specs.declared.totals.Totals.{Totals}
+use Rattle.totals.specs.declared.Totals.{Totals}
 use Rattle.opened.specs.Opening.{nodes_in, free_space_of, used_of, region_of, opening, disc_of}
 use Rattle.disc.specs.Calls.{totals_of}
 use Rattle.edit_rules.specs.Change.{filled}

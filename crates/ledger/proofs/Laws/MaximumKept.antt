@@ -14,7 +14,7 @@ use Rattle.edit_rules.specs.Change.{Change, table_verdict, Plan, refused, nothin
 use Rattle.edit_rules.specs.Edits.{Edit, plan_of, plan_verdict, plan_image, verdict_of, image_after}
 use Rattle.edit_rules.proofs.Laws.Accepted.{accepted}
 use Rattle.edit_rules.proofs.Laws.PlaceTests.{place-passed}
-use Rattle.space.specs.declared.totals.Totals.{Totals}
+use Rattle.totals.specs.declared.Totals.{Totals}
 use Rattle.ledger.specs.Ledger.{Ledger, first_ledger, ledger_with}
 use Rattle.ledger.specs.Runs.{Call, image_after_all, IsPassable, AllWithin}
 use Rattle.ledger.specs.Theorem.{WithinMaximum, MaximumKept}

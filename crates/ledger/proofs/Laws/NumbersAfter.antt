@@ -15,7 +15,7 @@ use Rattle.tree.specs.Table.{Node, name_of, empty_root}
 use Rattle.tree.specs.Lookup.{is_directory, components, lookup}
 use Rattle.tree.specs.Insert.{insert_at, empty_file, empty_directory}
 use Rattle.tree.proofs.Laws.InsertedList.{IsNested, Fresh, well-nested}
-use Rattle.space.specs.declared.totals.Totals.{Totals}
+use Rattle.totals.specs.declared.Totals.{Totals}
 use Rattle.opened.specs.Opening.{nodes_in, opening, disc_of}
 use Rattle.edit_rules.specs.Change.{Plan, change}
 use Rattle.edit_rules.specs.Edits.{insert_file, insert_directory, make_directories, table_change, new_number, insert_verdict, Made, stopped, made, make, plan_made, plan_make_directories, plan_verdict, plan_tree, verdict_of, image_after, plan_number, plan_of, number_behind, Edit}

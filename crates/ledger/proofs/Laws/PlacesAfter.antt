@@ -24,7 +24,7 @@ use Rattle.space.specs.MaxRegionSize.{max_region_size}
 use Rattle.space.specs.Allocate.{allocation_of}
 use Rattle.space.specs.Laws.AllocateLaws.{found-region}
 use Rattle.header.specs.Verdicts.{disc_end}
-use Rattle.space.specs.declared.totals.Totals.{Totals}
+use Rattle.totals.specs.declared.Totals.{Totals}
 use Rattle.opened.specs.Opening.{nodes_in, used_in, free_space_of, region_of, disc_of}
 use Rattle.edit_rules.specs.Change.{Plan, nothing, change, filled}
 use Rattle.edit_rules.specs.Edits.{move_file, resize_file, fill_file, plan_behind, file_verdict, relocation_change, relocate_verdict, plan_move, resize_change, plan_elsewhere, clip_verdict, plan_resize, plan_fill, plan_verdict, plan_tree, verdict_of, image_after}

@@ -8,8 +8,8 @@ use Rattle.std.proofs.Common.{ap, ◌∙◌, arith}
 use borrow.Author.Tests.{le-ltb}
 use Rattle.endian.specs.Bytes.{AllBytes}
 use Rattle.refusal.specs.Refusal.{first}
-use Rattle.space.specs.declared.totals.Totals.{Totals}
-use Rattle.space.specs.Totals.{totals_verdict, moved_totals}
+use Rattle.totals.specs.declared.Totals.{Totals}
+use Rattle.totals.specs.Totals.{totals_verdict, moved_totals}
 use Rattle.opened.specs.Opening.{opening, used_of, disc_of}
 use Rattle.opened.proofs.Laws.OpeningLaws.{disc-filled}
 use Rattle.disc.specs.Calls.{totals_of, record_answer}

@@ -1,10 +1,8 @@
 -- The largest free region once an edit is made, by one look at the used regions of before: the edited file's old place is passed over, and its
 -- new place cut out. Assumes nothing: these are definitions.
-use Rattle.refusal.specs.Refusal.{Verdict}
-use Rattle.std.specs.Prelude.{ℕ, ◌-◌, max, ◌||◌, List, [], ◌∷◌, Ok, Err, if◌then◌else◌, ◌==◌, nat_le}
+use Rattle.std.specs.Prelude.{ℕ, ◌-◌, max, ◌||◌, List, [], ◌∷◌, if◌then◌else◌, ◌==◌, nat_le}
 use Rattle.space.specs.declared.region.DiscRegion.{DiscRegion}
 use Rattle.space.specs.Used.{end_of}
-use Rattle.space.specs.declared.totals.Totals.{Totals}
 
 -- the longest run of the bytes from a up to b that has none of r's bytes
 unfoldable pub longest_beside : ℕ → ℕ → DiscRegion → ℕ
@@ -21,16 +19,3 @@ longest_from e gone new at best (x ∷ xs) =
 -- where the old place starts; 0, where no file can, if there is none
 abbrev pub gone_of : DiscRegion → ℕ
 gone_of old = if old.size == 0 then 0 else old.offset
-
--- whether the record can move on, and the record then
-pub record Moved : Type 0 where
-  pub verdict : Verdict
-  pub totals : Totals
-
-abbrev pub moved_with : Verdict → Totals → Moved
-moved_with v t = record { verdict = v; totals = t }
-
--- by the verdict: the next record, or the one that came in
-abbrev pub moved_as : Verdict → Totals → Totals → Moved
-moved_as (Ok _) t next = moved_with (Ok tt) next
-moved_as (Err c) t next = moved_with (Err c) t

@@ -15,7 +15,7 @@ use Rattle.space.specs.Used.{is_inside, nonempty_regions, total_size, no_region}
 use Rattle.space.specs.Free.{largest_size}
 use Rattle.space.specs.Listing.{rows_of}
 use Rattle.window.specs.Window.{new_window, count_of}
-use Rattle.space.specs.declared.totals.Totals.{Totals}
+use Rattle.totals.specs.declared.Totals.{Totals}
 use Rattle.executable.specs.Program.{program_in, own_region}
 use Rattle.opened.specs.Opening.{table_of, nodes_in, used_in, free_space_of, used_of, opening, disc_of}
 use Rattle.disc.specs.Calls.{totals_answer, program_answer, free_regions_answer, free_regions_list, totals_of, record_answer}

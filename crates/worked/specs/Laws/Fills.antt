@@ -17,7 +17,7 @@ use Rattle.space.specs.Free.{runs, free_regions}
 use Rattle.space.specs.Align.{align_up}
 use Rattle.space.specs.MaxRegionSize.{size_beside_free, max_size_from}
 use Rattle.space.specs.Allocate.{better_of, largest_rest, is_power_among, allocation_of}
-use Rattle.space.specs.Totals.{totals_verdict}
+use Rattle.totals.specs.Totals.{totals_verdict}
 use Rattle.executable.specs.Program.{program_of, program_in, own_region}
 use Rattle.opened.specs.Opening.{table_of, nodes_in, opening, used_of, used_in, regions_behind_table, layout_verdict}
 use Rattle.edit_rules.specs.Change.{image_with_table, written_image, table_verdict, place_verdict}

@@ -14,8 +14,8 @@ use Rattle.space.specs.declared.region.DiscRegion.{DiscRegion}
 use Rattle.space.specs.Used.{no_region}
 use Rattle.space.specs.Free.{largest_size}
 use Rattle.space.specs.MaxRegionSize.{size_beside_free, max_size_from}
-use Rattle.space.specs.declared.totals.Totals.{Totals}
-use Rattle.space.specs.Totals.{totals_verdict, moved_totals}
+use Rattle.totals.specs.declared.Totals.{Totals}
+use Rattle.totals.specs.Totals.{totals_verdict, moved_totals}
 use Rattle.opened.specs.Opening.{disc_of}
 use Rattle.edit_rules.specs.Change.{Change, Plan, change, filled, image_with_table, written_image, table_verdict, place_verdict}
 use Rattle.edit_rules.specs.Edits.{Edit, insert_file, move_file, resize_file, fill_file, rewrite, table_change, relocation_change, resize_change, insert_verdict, plan_move, plan_resize, plan_fill, plan_of, plan_verdict, plan_image, counted_verdict, verdict_of, image_after, totals_after}

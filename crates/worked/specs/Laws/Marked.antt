@@ -26,8 +26,8 @@ use Rattle.space.specs.MaxRegionSize.{size_beside_free, max_size_from}
 use Rattle.space.specs.Align.{align_up}
 use Rattle.space.specs.Allocate.{better_of, largest_rest, is_power_among, allocation_of}
 use Rattle.space.specs.Listing.{rows_of}
-use Rattle.space.specs.declared.totals.Totals.{Totals}
-use Rattle.space.specs.Totals.{totals_verdict}
+use Rattle.totals.specs.declared.Totals.{Totals}
+use Rattle.totals.specs.Totals.{totals_verdict}
 use Rattle.executable.specs.Program.{program_of, program_in, own_region}
 use Rattle.opened.specs.Opening.{table_of, nodes_in, opening, free_space_of, used_of, used_in, regions_behind_table, layout_verdict}
 use Rattle.disc.specs.Files.{entry_answer, lookup_answer, max_file_size_answer, open_file_answer}

@@ -16,7 +16,7 @@ use Rattle.space.specs.Used.{is_used, nonempty_regions, total_size}
 use Rattle.space.specs.Layout.{are_disjoint, is_disjoint_from_all, are_pairwise_disjoint, are_below, are_disjoint_below}
 use Rattle.space.specs.Free.{runs, free_regions}
 use Rattle.space.specs.MaxRegionSize.{size_beside_free, max_size_from}
-use Rattle.space.specs.Totals.{totals_verdict}
+use Rattle.totals.specs.Totals.{totals_verdict}
 use Rattle.executable.specs.Program.{program_of, program_in, own_region}
 use Rattle.opened.specs.Opening.{table_of, nodes_in, opening, regions_behind_table, used_in, free_space_of, used_of, layout_verdict, disc_of}
 use Rattle.edit_rules.specs.Change.{Change, nothing, change, filled, image_with_table, written_image, table_verdict, place_verdict}

@@ -20,7 +20,7 @@ use Rattle.ledger.specs.Theorem.{LedgerHolds}
 use Rattle.ledger.specs.Ledger.{History, Ledger, node_without_place, files_before, first_histories, first_ledger, ledger_after}
 use Rattle.ledger.specs.Runs.{Call, image_after_all, reports_of, AllWithin}
 use Rattle.space.specs.Used.{total_size}
-use Rattle.space.specs.Totals.{totals_verdict}
+use Rattle.totals.specs.Totals.{totals_verdict}
 use Rattle.executable.specs.Program.{program_of, program_in, own_region, program_behind}
 use Rattle.header.specs.Fields.{fields}
 use Rattle.header.specs.Header.{header_of, put_fields, field_bytes, blank_header}

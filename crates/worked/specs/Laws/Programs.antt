@@ -19,7 +19,7 @@ use Rattle.space.specs.Free.{runs, free_regions}
 use Rattle.space.specs.Align.{align_up}
 use Rattle.space.specs.MaxRegionSize.{size_beside_free, max_size_from}
 use Rattle.space.specs.Allocate.{better_of, largest_rest, is_power_among, allocation_of}
-use Rattle.space.specs.Totals.{totals_verdict}
+use Rattle.totals.specs.Totals.{totals_verdict}
 use Rattle.executable.specs.Dol.{words_at, largest_of}
 use Rattle.executable.specs.Program.{program_of, program_in, own_region}
 use Rattle.opened.specs.Opening.{table_of, nodes_in, regions_behind_table, used_in, layout_verdict, opening, free_space_of, used_of}

@@ -11,8 +11,8 @@ use Rattle.tree.specs.Insert.{set_place}
 use Rattle.space.specs.Used.{is_used, nonempty_regions, total_size}
 use Rattle.space.specs.Free.{runs, free_regions, largest_size}
 use Rattle.space.specs.MaxRegionSize.{size_beside_free, max_size_from}
-use Rattle.space.specs.declared.totals.Totals.{Totals}
-use Rattle.space.specs.Totals.{totals_verdict, moved_totals}
+use Rattle.totals.specs.declared.Totals.{Totals}
+use Rattle.totals.specs.Totals.{totals_verdict, moved_totals}
 use Rattle.executable.specs.Program.{program_of, program_in, own_region}
 use Rattle.opened.specs.Opening.{table_of, nodes_in, regions_behind_table, used_in, free_space_of, used_of}
 use Rattle.disc.specs.Calls.{record_answer}

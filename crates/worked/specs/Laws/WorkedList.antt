@@ -4,7 +4,7 @@ use Rattle.endian.specs.Bytes.{put, span}
 use Rattle.tree.specs.Table.{file, directory}
 use Rattle.tree.specs.Insert.{raised_next, splice, insert_at, set_place}
 use Rattle.space.specs.Free.{largest_size}
-use Rattle.space.specs.declared.totals.Totals.{Totals}
+use Rattle.totals.specs.declared.Totals.{Totals}
 use Rattle.disc.specs.Calls.{record_answer}
 use Rattle.edit_rules.specs.Edits.{Edit, insert_file, move_file, resize_file, fill_file, rewrite}
 use Rattle.ledger.specs.Ledger.{files_before, put_in, first_histories, Ledger, first_ledger, Report, ledger_after}

@@ -1,8 +1,8 @@
--- `totals::largest_after` meets its contract: the best so far, carried on over the regions that are left, is the best of all.
+-- `largest::largest_after` meets its contract: the best so far, carried on over the regions that are left, is the best of all.
 use Rattle.std.proofs.Common.{sym, ◌∙◌, arith}
 use Rattle.space.specs.Inner.Scan.{longest_from}
 use Rattle.space.proofs.Behind.{past-gone, past-used}
-use Rattle.space.proofs.totals.largest_after.Goals as goal
+use Rattle.space.proofs.largest.largest_after.Goals as goal
 
 pub loop-region-preserved-then-region-gone : goal.loop-region-preserved-then-region-gone
 loop-region-preserved-then-region-gone c =

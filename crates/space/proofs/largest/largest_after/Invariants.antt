@@ -1,7 +1,7 @@
--- `totals::largest_after` meets its contract: the best so far, carried on over the regions that are left, is the best of all.
+-- `largest::largest_after` meets its contract: the best so far, carried on over the regions that are left, is the best of all.
 use Rattle.std.proofs.Common.{◌≡◌, ◌<◌, ◌^◌, drop}
 use Rattle.space.specs.Inner.Scan.{longest_from}
-use Rattle.space.proofs.totals.largest_after.Given as goal
+use Rattle.space.proofs.largest.largest_after.Given as goal
 
 abbrev pub invariant-loop-region : goal.invariant-loop-region
 invariant-loop-region l =

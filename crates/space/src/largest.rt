@@ -1,49 +1,10 @@
-// The totals record that goes into an edit and comes back, and the largest free region that an edit leaves.
-ghost use Rattle.std.specs.Prelude.{◌≡◌, ◌<◌, ◌^◌, drop, max, OnOk, OnErr};
-ghost use Rattle.space.specs.Totals.{totals_verdict, moved_totals};
+// The largest free region that an edit leaves.
+ghost use Rattle.std.specs.Prelude.{◌≡◌, ◌<◌, ◌^◌, drop, max};
 ghost use Rattle.space.specs.Inner.Scan as scan_of;
 ghost use Rattle.space.specs.Inner.Scan.{longest_from};
 
 use crate::region::DiscRegion;
 use crate::used::UsedRegions;
-use refusal::{Refusal, Verdict};
-
-/// The totals record, which goes into an edit and comes back; in C it is lent as three 32-bit words in a row.
-#[repr(C)]
-#[derive(Clone, Copy, PartialEq, Eq, Debug)]
-pub struct Totals {
-    /// Bytes that are used.
-    pub used: u32,
-    /// Bytes of the largest free region; 0 if there is none.
-    pub largest: u32,
-    /// How many edits were accepted.
-    pub edits: u32,
-}
-
-impl Totals {
-    /// Moves the record on by an edit that uses `after` bytes where `before` were used, in any two numbers
-    /// with that difference, and that leaves `largest` bytes as the largest free region. 25 if used bytes or
-    /// edits would leave 32 bits: then the record stays.
-    #[tactic(auto, unfolding(crate::specs::Totals::totals_verdict, crate::specs::Totals::moved_totals))]
-    pub fn move_on(&mut self, before: u64, after: u64, largest: u32) -> Verdict
-        requires before_fits { before < 2 ^ 34 }
-        requires after_fits { after < 2 ^ 34 }
-        ensures answer { result ≡ totals_verdict self.old before after }
-        ensures accepted { OnOk result (self.new ≡ moved_totals self.old before after largest) }
-        ensures refused { OnErr result (self.new ≡ self.old) }
-    {
-        let sum = u64::from(self.used) + after;
-        let used = sum.checked_sub(before).ok_or(Refusal::TotalsOutOfRange)?;
-        let used = u32::try_from(used).or(Err(Refusal::TotalsOutOfRange))?;
-        let edits = self.edits.checked_add(1).ok_or(Refusal::TotalsOutOfRange)?;
-        *self = Totals {
-            used,
-            largest,
-            edits,
-        };
-        Ok(())
-    }
-}
 
 // The longest run of the bytes from a up to b that has none of the region's bytes.
 #[tactic(auto, unfolding(crate::specs::Inner::Scan::longest_beside))]

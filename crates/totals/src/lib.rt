@@ -1,0 +1,95 @@
+// The totals record that goes into an edit and comes back: used bytes, the largest free region, and what each
+// team may take and has taken.
+#![tactic(auto)]
+
+mod team;
+
+ghost use Rattle.std.specs.Prelude.{◌≡◌, ◌<◌, ◌^◌, OnOk, OnErr};
+ghost use Rattle.totals.specs.Totals.{totals_verdict, moved_totals, remainders, others};
+
+use refusal::{Refusal, Verdict};
+pub use team::{TEAMS, Team, new_teams, team_number};
+
+/// What an edit does to the used and the free bytes of an image.
+// Kept: no derived equality, since nothing compares two (N).
+#[derive(Clone, Copy)]
+pub struct SpaceChange {
+    /// The used bytes before the edit.
+    pub before: u64,
+    /// The used bytes after it. Only the difference from those before counts.
+    pub after: u64,
+    /// All free bytes after it.
+    pub free: u64,
+    /// The bytes of the largest free region after it; 0 if there is none.
+    pub largest: u32,
+}
+
+/// The totals record, which goes into an edit and comes back; in C it is lent as 66 32-bit words in a row.
+#[repr(C)]
+#[derive(Clone, Copy, PartialEq, Eq, Debug)]
+pub struct Totals {
+    /// Bytes that are used.
+    pub used: u32,
+    /// Bytes of the largest free region; 0 if there is none.
+    pub largest: u32,
+    /// The teams by their numbers.
+    pub teams: [Team; TEAMS],
+}
+
+impl Totals {
+    // What the teams but that one have not yet taken of their shares.
+    fn kept_for_others(&self, team: usize) -> u64
+        requires { team < 16 }
+        ensures { result ≡ remainders (others self.now.teams team) }
+    {
+        let mut sum = 0;
+        for (k, other) in self.teams.iter().enumerate() {
+            if k != team {
+                sum += u64::from(other.remainder());
+            }
+        }
+        sum
+    }
+
+    /// Moves the record on by an edit of that team. Refused with 27, 28 or 25, the record stays.
+    #[tactic(auto, unfolding(crate::specs::Totals::totals_verdict, crate::specs::Totals::moved_totals))]
+    pub fn move_on(&mut self, team: usize, change: SpaceChange) -> Verdict
+        requires is_team { team < 16 }
+        requires before_fits { change.before < 2 ^ 34 }
+        requires after_fits { change.after < 2 ^ 34 }
+        ensures answer { result ≡ totals_verdict self.old team change }
+        ensures accepted { OnOk result (self.new ≡ moved_totals self.old team change) }
+        ensures refused { OnErr result (self.new ≡ self.old) }
+    {
+        let SpaceChange {
+            before,
+            after,
+            free,
+            largest,
+        } = change;
+        let charged = self.teams[team];
+        let taken = u64::from(charged.taken) + after;
+        if taken > u64::from(charged.limit) + before {
+            return Err(Refusal::TakenAboveLimit);
+        }
+        if free < self.kept_for_others(team) {
+            return Err(Refusal::FreeBelowShares);
+        }
+        let used = (u64::from(self.used) + after)
+            .checked_sub(before)
+            .ok_or(Refusal::TotalsOutOfRange)?;
+        let used = u32::try_from(used).or(Err(Refusal::TotalsOutOfRange))?;
+        let edits = charged
+            .edits
+            .checked_add(1)
+            .ok_or(Refusal::TotalsOutOfRange)?;
+        self.used = used;
+        self.largest = largest;
+        self.teams[team] = Team {
+            taken: taken.saturating_sub(before) as u32,
+            edits,
+            ..charged
+        };
+        Ok(())
+    }
+}
