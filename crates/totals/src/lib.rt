@@ -5,7 +5,7 @@
 mod team;
 
 ghost use Rattle.std.specs.Prelude.{◌≡◌, ◌<◌, ◌^◌, OnOk, OnErr};
-ghost use Rattle.totals.specs.Totals.{totals_verdict, moved_totals, remainders, others};
+ghost use Rattle.totals.specs.Totals.{totals_verdict, moved_totals};
 
 use refusal::{Refusal, Verdict};
 pub use team::{TEAMS, Team, new_teams, team_number};
@@ -37,20 +37,6 @@ pub struct Totals {
 }
 
 impl Totals {
-    // What the teams but that one have not yet taken of their shares.
-    fn kept_for_others(&self, team: usize) -> u64
-        requires { team < 16 }
-        ensures { result ≡ remainders (others self.now.teams team) }
-    {
-        let mut sum = 0;
-        for (k, other) in self.teams.iter().enumerate() {
-            if k != team {
-                sum += u64::from(other.remainder());
-            }
-        }
-        sum
-    }
-
     /// Moves the record on by an edit of that team. Refused with 27, 28 or 25, the record stays.
     #[tactic(auto, unfolding(crate::specs::Totals::totals_verdict, crate::specs::Totals::moved_totals))]
     pub fn move_on(&mut self, team: usize, change: SpaceChange) -> Verdict
@@ -61,22 +47,14 @@ impl Totals {
         ensures accepted { OnOk result (self.new ≡ moved_totals self.old team change) }
         ensures refused { OnErr result (self.new ≡ self.old) }
     {
-        let SpaceChange {
-            before,
-            after,
-            free,
-            largest,
-        } = change;
         let charged = self.teams[team];
-        let taken = u64::from(charged.taken) + after;
-        if taken > u64::from(charged.limit) + before {
-            return Err(Refusal::TakenAboveLimit);
-        }
-        if free < self.kept_for_others(team) {
+        let taken = charged.taken_after(change)?;
+        if change.free < team::kept_for_others(&self.teams, team) {
             return Err(Refusal::FreeBelowShares);
         }
-        let used = (u64::from(self.used) + after)
-            .checked_sub(before)
+        let sum = u64::from(self.used) + change.after;
+        let used = sum
+            .checked_sub(change.before)
             .ok_or(Refusal::TotalsOutOfRange)?;
         let used = u32::try_from(used).or(Err(Refusal::TotalsOutOfRange))?;
         let edits = charged
@@ -84,9 +62,9 @@ impl Totals {
             .checked_add(1)
             .ok_or(Refusal::TotalsOutOfRange)?;
         self.used = used;
-        self.largest = largest;
+        self.largest = change.largest;
         self.teams[team] = Team {
-            taken: taken.saturating_sub(before) as u32,
+            taken,
             edits,
             ..charged
         };

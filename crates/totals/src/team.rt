@@ -1,8 +1,9 @@
 // The teams that edit one image by turns.
-ghost use Rattle.std.specs.Prelude.{◌≡◌, ◌<◌, OnOk};
+ghost use Rattle.std.specs.Prelude.{◌≡◌, ◌<◌, ◌≤◌, ◌^◌, length};
 ghost use Rattle.totals.specs.Totals as totals_of;
-ghost use Rattle.totals.specs.Totals.{team_verdict};
+ghost use Rattle.totals.specs.Inner.{taken_after};
 
+use crate::SpaceChange;
 use refusal::Refusal;
 
 /// How many teams a record has.
@@ -24,12 +25,61 @@ pub struct Team {
 }
 
 impl Team {
+    // A team that has taken nothing.
+    fn new(limit: u32, share: u32) -> Team
+        ensures { result ≡ totals_of.new_team limit share }
+    {
+        Team {
+            limit,
+            share,
+            taken: 0,
+            edits: 0,
+        }
+    }
+
     // What the team has not yet taken of its share.
     pub(crate) fn remainder(self) -> u32
         ensures { result ≡ totals_of.remainder self }
     {
         self.share.saturating_sub(self.taken)
     }
+
+    // What the team has taken after an edit of its own, or 27; below 0 it does not go.
+    pub(crate) fn taken_after(self, change: SpaceChange) -> Result<u32, Refusal>
+        requires before_fits { change.before < 2 ^ 34 }
+        requires after_fits { change.after < 2 ^ 34 }
+        ensures { result ≡ taken_after self change }
+    {
+        let SpaceChange { before, after, .. } = change;
+        let taken = u64::from(self.taken) + after;
+        if taken > u64::from(self.limit) + before {
+            return Err(Refusal::TakenAboveLimit);
+        }
+        Ok(taken.saturating_sub(before) as u32)
+    }
+}
+
+// What the teams have not yet taken of their shares, together.
+#[tactic(auto, unfolding(crate::specs::Totals::remainders))]
+fn remainders(teams: &[Team]) -> u64
+    requires { length teams.now ≤ 16 }
+    ensures sum { result ≡ totals_of.remainders teams.now }
+    ensures bound { result ≤ 2 ^ 36 }
+{
+    let mut sum = 0;
+    for team in teams {
+        sum += u64::from(team.remainder());
+    }
+    sum
+}
+
+// What the teams but that one have not yet taken of their shares.
+pub(crate) fn kept_for_others(teams: &[Team], team: usize) -> u64
+    requires is_team { team < length teams.now }
+    requires few { length teams.now ≤ 16 }
+    ensures { result ≡ totals_of.remainders (totals_of.others teams.now team) }
+{
+    remainders(&teams[..team]) + remainders(&teams[team + 1..])
 }
 
 /// Teams of these limits and shares, in bytes, that have taken nothing.
@@ -37,14 +87,11 @@ impl Team {
 pub fn new_teams(limits: &[u32; TEAMS], shares: &[u32; TEAMS]) -> [Team; TEAMS]
     ensures { result ≡ totals_of.new_teams limits.now shares.now }
 {
-    std::array::from_fn(|k| requires { k < 16 } {
-        Team {
-            limit: limits[k],
-            share: shares[k],
-            taken: 0,
-            edits: 0,
-        }
-    })
+    let mut teams = [Team::new(0, 0); TEAMS];
+    for k in 0..TEAMS {
+        teams[k] = Team::new(limits[k], shares[k]);
+    }
+    teams
 }
 
 /// A team's number as an index, or 15 for one above 15.
