@@ -1,5 +1,5 @@
--- A fill from three other sides: its tests before 25 are the resize's, an empty clip is a resize to 0, and a clip of the file's
--- own size writes the clip only and wants no working bytes. With 25 and the record: FillRecord of ledger. Assumes nothing.
+-- A fill from three other sides: its tests before the record's are the resize's, an empty clip is a resize to 0, and a clip of the file's
+-- own size writes the clip only and wants no working bytes. With the record: FillRecord of ledger. Assumes nothing.
 use Rattle.std.specs.Prelude.{Ok, Err}
 use Rattle.refusal.specs.Refusal.{Verdict}
 use Rattle.std.specs.Prelude.{ℕ, ◌≤◌, ◌≡◌, refl, List, [], ltb, length, get_or}
@@ -10,10 +10,9 @@ use Rattle.endian.specs.Laws.Stored.{put-none}
 use Rattle.refusal.specs.declared.Refusal.TheVariants.{NotEnoughSpace}
 use Rattle.refusal.specs.Refusal.{refuse, first}
 use Rattle.tree.specs.Table.{empty_root}
-use Rattle.totals.specs.declared.Totals.{Totals}
 use Rattle.opened.specs.Opening.{nodes_in, free_space_of, region_of, disc_of}
 use Rattle.edit_rules.specs.Change.{Plan, nothing, filled}
-use Rattle.edit_rules.specs.Edits.{resize_file, fill_file, plan_behind, file_verdict, plan_sized, plan_resize, plan_fill, plan_of, plan_verdict, plan_image, counted_verdict, verdict_of, image_after}
+use Rattle.edit_rules.specs.Edits.{Account, resize_file, fill_file, plan_behind, file_verdict, plan_sized, plan_resize, plan_fill, plan_of, plan_verdict, plan_image, counted_verdict, verdict_of, image_after}
 
 module _ (image : List ℕ) (words bytes k : ℕ) (clip : List ℕ) (short : length clip ≤ 0xFFFFFFFF) where
   -- the plan of the fill is that of the resize, and then the clip
@@ -27,9 +26,9 @@ module _ (image : List ℕ) (words bytes k : ℕ) (clip : List ℕ) (short : len
   fill-verdict = same-plan (plan_sized (free_space_of image) (nodes_in image) k (region_of (get_or (nodes_in image) k empty_root)) (length clip)) (file_verdict (nodes_in image) k)
 
 -- THEOREM: an empty clip is a resize to 0
-pub empty-clip : (t : Totals) (image : List ℕ) (words bytes k : ℕ) → image_after (fill_file k []) t image words bytes ≡ image_after (resize_file k 0) t image words bytes
+pub empty-clip : (a : Account) (image : List ℕ) (words bytes k : ℕ) → image_after (fill_file k []) a image words bytes ≡ image_after (resize_file k 0) a image words bytes
 unfolding image_after verdict_of counted_verdict
-empty-clip t image words bytes k = rw (fill-verdict image words bytes k [] (omega arith), same-image)
+empty-clip a image words bytes k = rw (fill-verdict image words bytes k [] (omega arith), same-image)
   where
     same : (p : Plan) (v : Verdict) → plan_image (plan_behind (first v (refuse (ltb 0xFFFFFFFF 0) NotEnoughSpace (Ok tt))) (filled k [] (plan_behind v p))) image ≡ plan_image (plan_behind v p) image
     same p (Ok _) = put-none (plan_image p image) _
