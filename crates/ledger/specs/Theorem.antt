@@ -4,7 +4,7 @@
 -- AfterAnyList, `fill-reads` of FillReads, `record-tells` of RecordTells, `teams-served` of TeamsServed, `maximum-kept` of MaximumKept.
 -- Assumes nothing: these are definitions.
 use Rattle.std.specs.Prelude.{Ok, Err, ¬, slice_index_or, sum_by}
-use Rattle.std.specs.Prelude.{ℕ, ◌+◌, ◌<◌, ◌≤◌, ◌≡◌, true, false, List, map, length, take}
+use Rattle.std.specs.Prelude.{ℕ, ◌+◌, ◌-◌, ◌<◌, ◌≤◌, ◌≡◌, true, false, List, map, length, take}
 use Rattle.endian.specs.Bytes.{put, span, AllBytes}
 use Rattle.header.specs.Verdicts.{dol_offset, fst_size, fst_max_size, table_end, disc_end}
 use Rattle.tree.specs.Table.{file, empty_root}
@@ -13,7 +13,7 @@ use Rattle.space.specs.Listing.{region_row, listing_of, list_after}
 use Rattle.executable.specs.Program.{program_of, program_in, program_behind}
 use Rattle.refusal.specs.declared.Refusal.TheVariants.{FreeBelowShares}
 use Rattle.totals.specs.declared.Totals.{Totals}
-use Rattle.totals.specs.Totals.{team_of, new_teams, remainders}
+use Rattle.totals.specs.Totals.{team_of, new_teams}
 use Rattle.opened.specs.Opening.{table_of, nodes_in, region_of, used_in, used_of, free_space_of, opening, disc_of}
 use Rattle.disc.specs.Calls.{totals_answer, program_answer, free_regions_answer, free_regions_list, totals_of, record_answer}
 use Rattle.window.specs.Window.{new_window, count_of, buffer_of}
@@ -137,7 +137,7 @@ SharesSuffice (c ∷ calls) image =
 -- of the image and the record after the list; t₀ is the record before it
 pub record SharesHold (t₀ : Totals) (image : List ℕ) (t : Totals) : Type 0 where
   -- the free bytes are at least what all teams have not yet taken of their shares
-  pub shares-free : remainders t.teams ≤ total_size (free_space_of image)
+  pub shares-free : sum_by (λ m. m.share - m.taken) t.teams ≤ total_size (free_space_of image)
   -- no team has taken more than its limit
   pub within-limits : (k : ℕ) → (team_of t k).taken ≤ (team_of t k).limit
   -- limits and shares are those that were given
