@@ -1,0 +1,3 @@
+-- What follows from the definitions.
+pub mod Same
+pub mod Passed
