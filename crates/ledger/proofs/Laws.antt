@@ -36,6 +36,7 @@ pub mod Steps
 pub mod TableEdits
 pub mod ToldLaws
 pub mod TreeAfter
+pub mod Unbounded
 pub mod Vectors
 pub mod WorkedLedger
 pub mod Written
