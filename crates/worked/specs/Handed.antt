@@ -1,14 +1,27 @@
--- The records that the worked edits are handed: team 0 alone edits, and may take whatever there is. Assumes nothing: these are definitions.
-use Rattle.std.specs.Prelude.{ℕ, ◌-◌, ◌^◌, List, ◌∷◌, replicate}
+-- The records that the worked edits are handed. Assumes nothing: these are definitions.
+use Rattle.std.specs.Prelude.{ℕ, ◌-◌, ◌^◌, List, [], ◌∷◌, ◌++◌, length, replicate}
 use Rattle.totals.specs.declared.team.Team.{Team}
 use Rattle.totals.specs.declared.Totals.{Totals}
 use Rattle.totals.specs.Totals.{new_team}
 use Rattle.disc.specs.Calls.{totals_of}
 use Rattle.edit_rules.specs.Edits.{Account, account}
 
--- it has taken so many bytes by so many edits; the others may take nothing, and nothing is kept for them
+-- the highest number that a record holds
+abbrev pub most : ℕ
+most = 2 ^ 32 - 1
+
+abbrev pub team : ℕ → ℕ → ℕ → ℕ → Team
+team limit share taken edits = record { limit = limit; share = share; taken = taken; edits = edits }
+
+-- the first of 16 teams; the others may take nothing, and nothing is kept for them
+abbrev pub teams : List Team → List Team
+teams first = first ++ replicate (16 - length first) (new_team 0 0)
+
+-- ---- team 0 alone edits, and may take whatever there is
+
+-- it has taken so many bytes by so many edits
 abbrev pub teams_after : ℕ → ℕ → List Team
-teams_after taken edits = record { limit = 2 ^ 32 - 1; share = 0; taken = taken; edits = edits } ∷ replicate 15 (new_team 0 0)
+teams_after taken edits = teams (team most 0 taken edits ∷ [])
 
 -- a record that holds these bytes, of which it has taken none
 abbrev pub handed : ℕ → ℕ → ℕ → Account

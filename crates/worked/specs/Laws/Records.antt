@@ -1,7 +1,7 @@
 -- Worked totals records, by computing, on the small master: a record made, moved by each kind of edit that is
 -- accepted, and 25 at each end of its range. Assumes nothing.
 use Rattle.std.specs.Prelude.{Ok, Err}
-use Rattle.std.specs.Prelude.{ℕ, ◌-◌, ◌^◌, ◌≡◌, refl, ◌∷◌, replicate}
+use Rattle.std.specs.Prelude.{ℕ, ◌-◌, ◌≡◌, refl, ◌∷◌, replicate}
 use Rattle.refusal.specs.declared.Refusal.TheVariants.{OverlappingMove, NotEnoughSpace, TotalsOutOfRange}
 use Rattle.refusal.specs.Refusal.{number_of}
 use Rattle.space.specs.Free.{largest_size}
@@ -10,7 +10,7 @@ use Rattle.totals.specs.declared.Totals.{Totals}
 use Rattle.totals.specs.Totals.{new_teams, remainders, team_verdict, totals_verdict, moved_totals}
 use Rattle.disc.specs.Calls.{record_answer}
 use Rattle.edit_rules.specs.Edits.{Account, account, move_file, resize_file, rewrite, plan_move, counted_verdict, verdict_of}
-use Rattle.worked.specs.Handed.{teams_after, handed}
+use Rattle.worked.specs.Handed.{most, teams_after, handed}
 use Rattle.worked.specs.Image.{master, master_words, master_bytes}
 use Rattle.worked.specs.Laws.Marked.{opens, nodes, free, used, fresh}
 use Rattle.worked.specs.Laws.Planned.{accepted-by, refused-by, refused}
@@ -18,10 +18,6 @@ use Rattle.worked.specs.Laws.OnMaster.{answer, image, after, costless, resizes}
 
 abbrev totals : ℕ → ℕ → ℕ → ℕ → Totals
 totals used largest taken edits = record { used = used; largest = largest; teams = teams_after taken edits }
-
--- the highest number that a record holds
-abbrev most : ℕ
-most = 2 ^ 32 - 1
 
 -- a record that can count no more edits of the team
 abbrev counted-out : Account
