@@ -13,7 +13,9 @@ pub mod NewMastersApplied
 pub mod NewMastersImage
 pub mod NewMastersPaths
 pub mod NewMastersPlaced
+pub mod OnMaster
 pub mod Places
+pub mod Planned
 pub mod Programs
 pub mod Records
 pub mod Worked
