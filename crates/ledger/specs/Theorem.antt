@@ -3,7 +3,7 @@
 -- (RULES, After any list of edits). Proved in proofs/Laws: `ledger-holds` and `unnamed-stays` of
 -- AfterAnyList, `fill-reads` of FillReads, `record-tells` of RecordTells, `teams-served` of TeamsServed, `maximum-kept` of MaximumKept.
 -- Assumes nothing: these are definitions.
-use Rattle.std.specs.Prelude.{Ok, Err, ¬, slice_index_or, sum_by}
+use Rattle.std.specs.Prelude.{Ok, Err, [], ◌∷◌, slice_index_or, sum_by}
 use Rattle.std.specs.Prelude.{ℕ, ◌+◌, ◌-◌, ◌<◌, ◌≤◌, ◌≡◌, true, false, List, map, length, take}
 use Rattle.endian.specs.Bytes.{put, span, AllBytes}
 use Rattle.header.specs.Verdicts.{dol_offset, fst_size, fst_max_size, table_end, disc_end}
