@@ -18,5 +18,7 @@ pub mod Places
 pub mod Planned
 pub mod Programs
 pub mod Records
+pub mod Teams
+pub mod TeamsApplied
 pub mod Worked
 pub mod WorkedList
