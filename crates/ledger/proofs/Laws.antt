@@ -34,6 +34,7 @@ pub mod Sequence
 pub mod SparedLaws
 pub mod Steps
 pub mod TableEdits
+pub mod TeamsServed
 pub mod ToldLaws
 pub mod TreeAfter
 pub mod Unbounded
