@@ -218,7 +218,7 @@ in-table : (verdict_of insert_b (due 5 6823) (tight 0x1A) master_words 0x28 ≡ 
 unfolding verdict_of counted_verdict team_verdict max_size_from size_beside_free table_verdict place_verdict limits is_shallow is_shallow_from dirs_open_at texts_of encode entries_bytes parent_of parent_below
 in-table = (rw (tight-opens 0x1A, tight-plan 0x1A, tight-header.3), rw (tight-opens 0, tight-plan 0, tight-free, tight-header.2, tight-header.0, tight-header.1))
 
-sixteenth : team_verdict 16 ≡ Err NoSuchEntry
+pub sixteenth : team_verdict 16 ≡ Err NoSuchEntry
 unfolding team_verdict
 sixteenth = refl
 
