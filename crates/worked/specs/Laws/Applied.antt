@@ -34,7 +34,7 @@ use Rattle.ledger.proofs.Laws.FillReads.{read_into, fill-reads, read_back}
 use Rattle.ledger.proofs.Laws.MaximumKept.{maximum-kept}
 use Rattle.ledger.proofs.Laws.RecordTells.{record-tells}
 use Rattle.ledger.proofs.Laws.Unbounded.{IsUnbounded}
-use Rattle.worked.specs.Handed.{handed, own}
+use Rattle.worked.specs.Laws.Handed.{handed, own}
 use Rattle.worked.specs.Image.{master, master_words}
 use Rattle.worked.specs.Laws.Marked as small
 use Rattle.worked.specs.Laws.Maximum.{stating, slack, slack-opens, slack-header}

@@ -36,7 +36,7 @@ use Rattle.master.specs.Theorem.{IsGranted, FileSeen, files_in, files_wished, Is
 use Rattle.master.proofs.Laws.WishTree.{tree-is-wish-list, each-is-found}
 use Rattle.master.proofs.Laws.Opens.{new-master-opens}
 use Rattle.master.proofs.Laws.AllListsFollow.{any-list-follows, refused-exactly}
-use Rattle.worked.specs.Handed.{handed}
+use Rattle.worked.specs.Laws.Handed.{handed}
 use Rattle.worked.specs.Laws.NewMastersImage.{nested, nested_tree, small, lent, written, image, small-tree}
 
 -- ---- the hypotheses

@@ -1,29 +1,26 @@
 -- The theorems about a record that is handed on, applied to a list in which teams take turns on the small master: their hypotheses hold there, and
 -- what they say is read off in numbers. Assumes nothing.
-use Rattle.std.specs.Prelude.{Result, Ok, Err}
-use Rattle.refusal.specs.Refusal.{Verdict}
-use Rattle.std.specs.Prelude.{ℕ, ◌+◌, ◌≤◌, ◌≡◌, refl, List, [], ◌∷◌, ◌++◌, replicate}
+use Rattle.std.specs.Prelude.{Ok, Err}
+use Rattle.std.specs.Prelude.{ℕ, ◌≤◌, ◌≡◌, refl, List, [], ◌∷◌, replicate}
 use Rattle.std.proofs.Common.{ap, arith, sym, ◌∙◌}
 use Rattle.endian.specs.Bytes.{put, AllBytes}
-use Rattle.refusal.specs.declared.Refusal.{Refusal}
 use Rattle.refusal.specs.declared.Refusal.TheVariants.{NoSuchEntry, TakenAboveLimit, FreeBelowShares}
 use Rattle.space.specs.Used.{total_size}
 use Rattle.space.specs.Free.{largest_size}
 use Rattle.space.specs.MaxRegionSize.{size_beside_free, max_size_from}
-use Rattle.totals.specs.declared.team.Team.{Team}
 use Rattle.totals.specs.declared.Totals.{Totals}
 use Rattle.totals.specs.Totals.{team_of, new_teams, remainders, team_verdict, totals_verdict, moved_totals}
 use Rattle.totals.proofs.Laws.NewTeams.{new-taken}
 use Rattle.opened.specs.Opening.{used_of, free_space_of}
 use Rattle.disc.specs.Calls.{record_answer}
-use Rattle.edit_rules.specs.Edits.{Edit, Account, account, resize_file, rewrite, plan_resize, verdict_of}
+use Rattle.edit_rules.specs.Edits.{Edit, account, resize_file, rewrite, plan_resize, verdict_of}
 use Rattle.edit_rules.proofs.Laws.Accepted.{team-first}
 use Rattle.ledger.specs.Lists.{Turn, calls_of, answers_of}
 use Rattle.ledger.specs.Runs.{Call, image_after_all, totals_after_all, IsHandedOn, accepted_count, AllWithin}
 use Rattle.ledger.specs.Theorem.{Tells, IsFairStart, IsWithinShare, SharesHold, SharesSuffice}
 use Rattle.ledger.proofs.Laws.RecordTells.{record-tells}
 use Rattle.ledger.proofs.Laws.TeamsServed.{teams-served}
-use Rattle.worked.specs.Handed.{most, team, teams}
+use Rattle.worked.specs.Laws.Handed.{most, team, teams}
 use Rattle.worked.specs.Image.{master, master_words, master_bytes}
 use Rattle.worked.specs.Laws.Marked.{opens, free, used}
 use Rattle.worked.specs.Laws.Planned.{Step, accepted-by, refused-by, refused}
