@@ -1,6 +1,8 @@
 //! The functions of libcounter.a as C sees them. A slice is a pointer and a length in elements,
 //! slots of fixed length are a pointer; each function answers 0 or the number of the cause.
 
+use crate::{RECORD_WORDS, TEAMS};
+
 unsafe extern "C" {
     pub fn counter_header(image: *const u8, image_len: usize, fields: *mut [u8; 0x440]) -> u32;
     pub fn counter_open(
@@ -168,7 +170,9 @@ unsafe extern "C" {
         image_len: usize,
         words: *mut u32,
         words_len: usize,
-        record: *mut [u32; 3],
+        limits: *const [u32; TEAMS],
+        shares: *const [u32; TEAMS],
+        record: *mut [u32; RECORD_WORDS],
     ) -> u32;
     pub fn counter_insert_file(
         image: *mut u8,
@@ -177,7 +181,8 @@ unsafe extern "C" {
         words_len: usize,
         bytes: *mut u8,
         bytes_len: usize,
-        record: *mut [u32; 3],
+        record: *mut [u32; RECORD_WORDS],
+        team: u32,
         parent: u32,
         name: *const u8,
         name_len: usize,
@@ -190,7 +195,8 @@ unsafe extern "C" {
         words_len: usize,
         bytes: *mut u8,
         bytes_len: usize,
-        record: *mut [u32; 3],
+        record: *mut [u32; RECORD_WORDS],
+        team: u32,
         parent: u32,
         name: *const u8,
         name_len: usize,
@@ -203,7 +209,8 @@ unsafe extern "C" {
         words_len: usize,
         bytes: *mut u8,
         bytes_len: usize,
-        record: *mut [u32; 3],
+        record: *mut [u32; RECORD_WORDS],
+        team: u32,
         start: u32,
         path: *const u8,
         path_len: usize,
@@ -216,7 +223,8 @@ unsafe extern "C" {
         words_len: usize,
         bytes: *mut u8,
         bytes_len: usize,
-        record: *mut [u32; 3],
+        record: *mut [u32; RECORD_WORDS],
+        team: u32,
         number: u32,
         new_offset: u32,
     ) -> u32;
@@ -227,7 +235,8 @@ unsafe extern "C" {
         words_len: usize,
         bytes: *mut u8,
         bytes_len: usize,
-        record: *mut [u32; 3],
+        record: *mut [u32; RECORD_WORDS],
+        team: u32,
         number: u32,
         new_size: u32,
     ) -> u32;
@@ -238,7 +247,8 @@ unsafe extern "C" {
         words_len: usize,
         bytes: *mut u8,
         bytes_len: usize,
-        record: *mut [u32; 3],
+        record: *mut [u32; RECORD_WORDS],
+        team: u32,
         number: u32,
         clip: *const u8,
         clip_len: usize,
@@ -250,7 +260,8 @@ unsafe extern "C" {
         words_len: usize,
         bytes: *mut u8,
         bytes_len: usize,
-        record: *mut [u32; 3],
+        record: *mut [u32; RECORD_WORDS],
+        team: u32,
     ) -> u32;
 
     pub fn counter_master(

@@ -1,6 +1,6 @@
 //! libcounter.a from Rust: the C functions (`ffi`), and beside each a call on slices.
 //!
-//! A call answers `Ok` or the number of the cause (1 to 26). Working memory is lent in a `Memory`;
+//! A call answers `Ok` or the number of the cause (1 to 28). Working memory is lent in a `Memory`;
 //! it is zero after every call, whatever it held.
 
 pub mod ffi;
@@ -53,13 +53,25 @@ pub struct Window {
     pub position: u64,
 }
 
+/// One of the teams that edit an image by turns: the most bytes that it may take, the free bytes that are kept
+/// for it, how many it has taken, and how many edits of its own were accepted.
+#[repr(C)]
+#[derive(Debug, Clone, Copy, Default, PartialEq, Eq)]
+pub struct Team {
+    pub limit: u32,
+    pub share: u32,
+    pub taken: u32,
+    pub edits: u32,
+}
+
 /// Goes into every edit and comes back: used bytes, the size of the largest free region (0 if there
-/// is none), and how many edits were accepted.
+/// is none), and the teams.
+#[repr(C)]
 #[derive(Debug, Clone, Copy, PartialEq, Eq)]
 pub struct Record {
     pub used: u32,
     pub largest: u32,
-    pub edits: u32,
+    pub teams: [Team; TEAMS],
 }
 
 /// Whose a used region is.
@@ -101,8 +113,10 @@ pub const ENTRY_WORDS: usize = 6;
 pub const REGION_WORDS: usize = 2;
 pub const CLUSTER_WORDS: usize = 3;
 
-/// Words of a record.
-pub const RECORD_WORDS: usize = 3;
+/// Teams of a record, and words of each of them and of all.
+pub const TEAMS: usize = 16;
+pub const TEAM_WORDS: usize = 4;
+pub const RECORD_WORDS: usize = 2 + TEAMS * TEAM_WORDS;
 
 /// Words of a DOL header.
 pub const DOL_WORDS: usize = 57;
@@ -387,12 +401,22 @@ impl Window {
 
 impl Record {
     pub fn slots(&self) -> [u32; RECORD_WORDS] {
-        [self.used, self.largest, self.edits]
+        let mut slots = [0; RECORD_WORDS];
+        let [used, largest, teams @ ..] = &mut slots;
+        (*used, *largest) = (self.used, self.largest);
+        for (slots, team) in teams.as_chunks_mut().0.iter_mut().zip(&self.teams) {
+            *slots = [team.limit, team.share, team.taken, team.edits];
+        }
+        slots
     }
 
     pub fn of(slots: [u32; RECORD_WORDS]) -> Record {
-        let [used, largest, edits] = slots;
-        Record { used, largest, edits }
+        let [used, largest, teams @ ..] = slots;
+        let team = |k| {
+            let [limit, share, taken, edits] = teams.as_chunks().0[k];
+            Team { limit, share, taken, edits }
+        };
+        Record { used, largest, teams: std::array::from_fn(team) }
     }
 
     /// An edit that takes this record and gives it back, a refused one too.
@@ -404,10 +428,18 @@ impl Record {
     }
 }
 
-/// A record of the image: its used total, its largest free region, no edit.
-pub fn make_record(image: &[u8], memory: &mut Memory) -> Answer<Record> {
+/// A record of the image: its used total, its largest free region, and the teams with these limits and shares,
+/// which have taken nothing.
+pub fn make_record(
+    image: &[u8],
+    memory: &mut Memory,
+    limits: &[u32; TEAMS],
+    shares: &[u32; TEAMS],
+) -> Answer<Record> {
     let mut slots = [0; RECORD_WORDS];
-    told(unsafe { call!(counter_make_record(in image, mut memory.words, = &mut slots)) })?;
+    told(unsafe {
+        call!(counter_make_record(in image, mut memory.words, = limits, = shares, = &mut slots))
+    })?;
     Ok(Record::of(slots))
 }
 
@@ -416,13 +448,14 @@ pub fn insert_file(
     image: &mut [u8],
     memory: &mut Memory,
     record: &mut Record,
+    team: u32,
     parent: u32,
     name: &[u8],
 ) -> Answer<u32> {
     let mut answer = [0; 1];
     record.through(|r| unsafe {
         call!(counter_insert_file(
-            mut image, mut memory.words, mut memory.bytes, = r, = parent, in name, = &mut answer
+            mut image, mut memory.words, mut memory.bytes, = r, = team, = parent, in name, = &mut answer
         ))
     })?;
     Ok(answer[0])
@@ -433,13 +466,14 @@ pub fn insert_directory(
     image: &mut [u8],
     memory: &mut Memory,
     record: &mut Record,
+    team: u32,
     parent: u32,
     name: &[u8],
 ) -> Answer<u32> {
     let mut answer = [0; 1];
     record.through(|r| unsafe {
         call!(counter_insert_directory(
-            mut image, mut memory.words, mut memory.bytes, = r, = parent, in name, = &mut answer
+            mut image, mut memory.words, mut memory.bytes, = r, = team, = parent, in name, = &mut answer
         ))
     })?;
     Ok(answer[0])
@@ -450,13 +484,14 @@ pub fn make_directories(
     image: &mut [u8],
     memory: &mut Memory,
     record: &mut Record,
+    team: u32,
     start: u32,
     path: &[u8],
 ) -> Answer<u32> {
     let mut answer = [0; 1];
     record.through(|r| unsafe {
         call!(counter_make_directories(
-            mut image, mut memory.words, mut memory.bytes, = r, = start, in path, = &mut answer
+            mut image, mut memory.words, mut memory.bytes, = r, = team, = start, in path, = &mut answer
         ))
     })?;
     Ok(answer[0])
@@ -466,12 +501,13 @@ pub fn move_file(
     image: &mut [u8],
     memory: &mut Memory,
     record: &mut Record,
+    team: u32,
     number: u32,
     new_offset: u32,
 ) -> Answer<()> {
     record.through(|r| unsafe {
         call!(counter_move_file(
-            mut image, mut memory.words, mut memory.bytes, = r, = number, = new_offset
+            mut image, mut memory.words, mut memory.bytes, = r, = team, = number, = new_offset
         ))
     })
 }
@@ -480,12 +516,13 @@ pub fn resize_file(
     image: &mut [u8],
     memory: &mut Memory,
     record: &mut Record,
+    team: u32,
     number: u32,
     new_size: u32,
 ) -> Answer<()> {
     record.through(|r| unsafe {
         call!(counter_resize_file(
-            mut image, mut memory.words, mut memory.bytes, = r, = number, = new_size
+            mut image, mut memory.words, mut memory.bytes, = r, = team, = number, = new_size
         ))
     })
 }
@@ -495,20 +532,26 @@ pub fn fill_file(
     image: &mut [u8],
     memory: &mut Memory,
     record: &mut Record,
+    team: u32,
     number: u32,
     clip: &[u8],
 ) -> Answer<()> {
     record.through(|r| unsafe {
         call!(counter_fill_file(
-            mut image, mut memory.words, mut memory.bytes, = r, = number, in clip
+            mut image, mut memory.words, mut memory.bytes, = r, = team, = number, in clip
         ))
     })
 }
 
 /// Writes the table anew.
-pub fn rewrite(image: &mut [u8], memory: &mut Memory, record: &mut Record) -> Answer<()> {
+pub fn rewrite(
+    image: &mut [u8],
+    memory: &mut Memory,
+    record: &mut Record,
+    team: u32,
+) -> Answer<()> {
     record.through(|r| unsafe {
-        call!(counter_rewrite(mut image, mut memory.words, mut memory.bytes, = r))
+        call!(counter_rewrite(mut image, mut memory.words, mut memory.bytes, = r, = team))
     })
 }
 

@@ -1,5 +1,5 @@
--- A record that was made of the first image and handed on through any list of calls says what one made afresh of the last image says, and how many
--- edits of each team were accepted. Assumes nothing.
+-- A record that was made of the first image and handed on through any list of calls says what one made afresh of the last image says, and what
+-- each team has taken, in how many accepted edits. Assumes nothing.
 use Rattle.std.specs.Prelude.{Ok, Err, is_err, is_ok}
 use Rattle.refusal.specs.Refusal.{Verdict}
 use Rattle.std.specs.Prelude.{ℕ, ◌+◌, ◌-◌, ◌<◌, ◌≡◌, ◌&&◌, Bool, true, false, cond, ◌==◌, List, [], ◌∷◌, length}
@@ -11,13 +11,13 @@ use Rattle.space.specs.Laws.HoldsLaws.{and-true}
 use Rattle.totals.specs.declared.Totals.{Totals}
 use Rattle.totals.specs.declared.SpaceChange.{SpaceChange}
 use Rattle.totals.specs.Totals.{new_teams, team_of, moved_totals}
-use Rattle.totals.proofs.Laws.Moved.{moved-length, one-edit-more, same-edits}
-use Rattle.totals.proofs.Laws.NewTeams.{new-length, new-edits}
+use Rattle.totals.proofs.Laws.Moved.{moved-length, one-edit-more, same-edits, taken-charged, same-taken}
+use Rattle.totals.proofs.Laws.NewTeams.{new-length, new-taken, new-edits}
 use Rattle.opened.specs.Opening.{opening, used_of, disc_of}
 use Rattle.disc.specs.Calls.{totals_of, record_answer}
 use Rattle.edit_rules.specs.Edits.{Account, plan_of, plan_image, space_change, totals_to, verdict_of, image_after, totals_after}
 use Rattle.ledger.specs.Ledger.{first_ledger}
-use Rattle.ledger.specs.Runs.{Call, image_after_all, totals_after_all, IsHandedOn, accepted_count}
+use Rattle.ledger.specs.Runs.{Call, image_after_all, totals_after_all, IsHandedOn, accepted_count, taken_after_all}
 use Rattle.ledger.specs.Theorem.{Tells, RecordTells}
 use Rattle.ledger.proofs.Laws.Sequence.{start, along}
 
@@ -52,7 +52,7 @@ tells-along [] image t e h = e
 tells-along (c ∷ calls) image t e h =
     tells-along calls (image_after c.edit c.account image c.words c.bytes) (totals_after c.edit c.account image c.words c.bytes) (call-tells c image (rw h.0 e)) h.1
 
--- ---- the counts
+-- ---- what each team has taken, and the counts
 
 edits-moved : (t : Totals) (j : ℕ) (x : SpaceChange) (k : ℕ) → k < length t.teams → (team_of (moved_totals t j x) k).edits ≡ (team_of t k).edits + cond (j == k) 1 0
 edits-moved t j x k h = go (j == k) refl
@@ -89,6 +89,46 @@ counts-along (c ∷ calls) image t k h on =
     let more = counts-along calls (image_after c.edit c.account image c.words c.bytes) (totals_after c.edit c.account image c.words c.bytes) k (omega (arith, here.0, h, ap (λ (t : Totals). length t.teams) on.0)) on.1 in
     more ∙ omega (arith, here.1, ap (λ (t : Totals). (team_of t k).edits) on.0)
 
+taken-moved : (t : Totals) (j : ℕ) (x : SpaceChange) (k : ℕ) → k < length t.teams → (team_of (moved_totals t j x) k).taken ≡ cond (j == k) ((team_of t k).taken + x.after - x.before) (team_of t k).taken
+taken-moved t j x k h = go (j == k) refl
+  where
+    go : (b : Bool) → (j == k) ≡ b → (team_of (moved_totals t j x) k).taken ≡ cond b ((team_of t k).taken + x.after - x.before) (team_of t k).taken
+    go true e = let j≡ : j ≡ k = eqb-true j k e in rw j≡ (taken-charged t k x h)
+    go false e = same-taken t j x k (λ q. eqb-false j k e (sym q))
+
+-- LAW: one call, accepted or refused
+call-takes : (c : Call) (image : List ℕ) (k : ℕ) → k < length c.account.totals.teams →
+    (team_of (totals_after c.edit c.account image c.words c.bytes) k).taken
+    ≡ cond (c.account.team == k) ((team_of c.account.totals k).taken + used_of (image_after c.edit c.account image c.words c.bytes) - used_of image) (team_of c.account.totals k).taken
+unfolding totals_after image_after
+call-takes c image k h = go (verdict_of c.edit c.account image c.words c.bytes)
+  where
+    a : Account
+    a = c.account
+
+    new : List ℕ
+    new = plan_image (plan_of c.edit (disc_of image)) image
+
+    none : (b : Bool) (n : ℕ) → n ≡ cond b (n + used_of image - used_of image) n
+    none true n = omega arith
+    none false n = refl
+
+    go : (v : Verdict) →
+        (team_of (cond (is_err v) a.totals (moved_totals a.totals a.team (space_change image new))) k).taken
+        ≡ cond (a.team == k) ((team_of a.totals k).taken + used_of (cond (is_err v) image new) - used_of image) (team_of a.totals k).taken
+    go (Ok _) = taken-moved a.totals a.team (space_change image new) k h
+    go (Err r) = none (a.team == k) (team_of a.totals k).taken
+
+takes-along : (calls : List Call) (image : List ℕ) (t : Totals) (k : ℕ) → k < length t.teams → IsHandedOn t calls image →
+    (team_of (totals_after_all t calls image) k).taken ≡ taken_after_all k (team_of t k).taken calls image
+unfolding totals_after_all taken_after_all
+takes-along [] image t k h on = refl
+takes-along (c ∷ calls) image t k h on =
+    let long = (call-counts c image k (rw on.0 h)).0 in
+    let next : List ℕ = image_after c.edit c.account image c.words c.bytes in
+    takes-along calls next (totals_after c.edit c.account image c.words c.bytes) k (omega (arith, long, h, ap (λ (t : Totals). length t.teams) on.0)) on.1
+    ∙ rw (call-takes c image k (rw on.0 h), on.0) refl
+
 -- THEOREM
 pub record-tells : RecordTells
 unfolding record_answer
@@ -99,15 +139,18 @@ record-tells image w₀ w limits shares t calls b l s e h a on =
     record {
       totals = tells-along calls image t (rw m.1) on;
       afresh = λ limits shares. rw k.opens;
+      takes = λ j d.
+      let none : (team_of t j).taken ≡ 0 = ap (λ (t : Totals). (team_of t j).taken) m.1 ∙ new-taken limits shares j in
+      takes-along calls image t j (omega (arith, sixteen, d)) on ∙ rw none refl;
       counts = λ j d.
       let none : (team_of t j).edits ≡ 0 = ap (λ (t : Totals). (team_of t j).edits) m.1 ∙ new-edits limits shares j in
       omega (arith, none, counts-along calls image t j (omega (arith, sixteen, d)) on);
     }
 
 -- THEOREM: a record made anew of the last image has the used bytes and the largest region of the one that was handed on, and no count
-pub made-anew : (image : List ℕ) (w : ℕ) (count : ℕ → ℕ) (limits shares : List ℕ) (t new : Totals) → Tells image w count t → record_answer image w limits shares ≡ Ok new →
+pub made-anew : (image : List ℕ) (w : ℕ) (taken count : ℕ → ℕ) (limits shares : List ℕ) (t new : Totals) → Tells image w taken count t → record_answer image w limits shares ≡ Ok new →
     (new.used ≡ t.used) × (new.largest ≡ t.largest) × ((k : ℕ) → (team_of new k).edits ≡ 0)
-made-anew image w count limits shares t new tells e =
+made-anew image w taken count limits shares t new tells e =
     let q : totals_of image (new_teams limits shares) ≡ new = cc (tells.afresh limits shares) in
     let n = new-edits limits shares in
     rw (← q, ap (λ (t : Totals). t.used) tells.totals, ap (λ (t : Totals). t.largest) tells.totals) (refl, refl, n)
