@@ -16,7 +16,7 @@ use Rattle.disc.specs.Calls.{record_answer}
 use Rattle.edit_rules.specs.Edits.{Edit, account, resize_file, rewrite, plan_resize, verdict_of}
 use Rattle.edit_rules.proofs.Laws.Accepted.{team-first}
 use Rattle.ledger.specs.Lists.{Turn, calls_of, answers_of}
-use Rattle.ledger.specs.Runs.{Call, image_after_all, totals_after_all, IsHandedOn, accepted_count, AllWithin}
+use Rattle.ledger.specs.Runs.{Call, image_after_all, totals_after_all, IsHandedOn, accepted_count, taken_after_all, AllWithin}
 use Rattle.ledger.specs.Theorem.{Tells, IsFairStart, IsWithinShare, SharesHold, SharesSuffice}
 use Rattle.ledger.proofs.Laws.RecordTells.{record-tells}
 use Rattle.ledger.proofs.Laws.TeamsServed.{teams-served}
@@ -200,7 +200,7 @@ start = record { taken = (fair.nothing-taken 2, fair.nothing-taken 16); shares =
 
 -- ---- what the record tells after the list
 
-tells : (w : ℕ) → master_words ≤ w → Tells (sized 6912) w (λ k. accepted_count k list master) t₄
+tells : (w : ℕ) → master_words ≤ w → Tells (sized 6912) w (λ k. taken_after_all k 0 list master) (λ k. accepted_count k list master) t₄
 tells w h = rw (worked.image, worked.handed-back) at (record-tells master master_words w limits shares t₀ list bytes refl refl worked.made h (within w h) worked.handed-on)
 
 pub record Told (w : ℕ) : Type 0 where
@@ -208,6 +208,8 @@ pub record Told (w : ℕ) : Type 0 where
   pub largest : largest_size (free_space_of (sized 6912)) ≡ 166
   -- one that is made of the last image, for teams of other limits and shares
   pub afresh : record_answer (sized 6912) w (replicate 16 5) (replicate 16 7) ≡ Ok (record { used = 8026; largest = 166; teams = replicate 16 (team 5 7 0 0) })
+  -- what each team has taken by the images: of the 6 bytes that team 0 gave back first it had taken none
+  pub taken : (taken_after_all 0 0 list master ≡ 7) × (taken_after_all 1 0 list master ≡ 6654) × (taken_after_all 2 0 list master ≡ 1) × (taken_after_all 3 0 list master ≡ 0)
   -- the accepted edits of each team, and no refused one
   pub counts : (accepted_count 0 list master ≡ 2) × (accepted_count 1 list master ≡ 1) × (accepted_count 2 list master ≡ 1) × (accepted_count 3 list master ≡ 0)
 
@@ -221,6 +223,7 @@ told w h =
       used = u;
       largest = l;
       afresh = t.afresh (replicate 16 5) (replicate 16 7) ∙ rw (u, l);
+      taken = (sym (t.takes 0 (omega arith)), sym (t.takes 1 (omega arith)), sym (t.takes 2 (omega arith)), sym (t.takes 3 (omega arith)));
       counts = (sym (t.counts 0 (omega arith)), sym (t.counts 1 (omega arith)), sym (t.counts 2 (omega arith)), sym (t.counts 3 (omega arith)));
     }
 
