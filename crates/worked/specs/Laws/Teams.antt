@@ -1,7 +1,6 @@
 -- Worked teams, by computing, on the small master: 27 and 28 at each end of their range and on edits that cost nothing, what is taken after an
 -- accepted edit, and where 15, 27 and 28 come among the tests. Assumes nothing.
 use Rattle.std.specs.Prelude.{Ok, Err}
-use Rattle.refusal.specs.Refusal.{Verdict}
 use Rattle.std.specs.Prelude.{ℕ, ◌^◌, ◌≡◌, refl, List, [], ◌∷◌, ◌++◌, replicate}
 use Rattle.refusal.specs.declared.Refusal.TheVariants.{HeaderPastImage, LimitOrMemory, NoSuchEntry, OverlappingMove, NotEnoughSpace, TotalsOutOfRange, TableAboveMaximum, TakenAboveLimit, FreeBelowShares}
 use Rattle.refusal.specs.Refusal.{number_of}
@@ -19,11 +18,11 @@ use Rattle.disc.specs.Calls.{record_answer}
 use Rattle.edit_rules.specs.Change.{table_verdict, place_verdict}
 use Rattle.edit_rules.specs.Edits.{Account, account, make_directories, move_file, resize_file, rewrite, plan_make_directories, plan_move, counted_verdict, verdict_of}
 use Rattle.edit_rules.proofs.Laws.Accepted.{team-first}
-use Rattle.worked.specs.Handed.{most, team, teams}
+use Rattle.worked.specs.Laws.Handed.{most, team, teams}
 use Rattle.worked.specs.Image.{master, master_words, master_bytes}
 use Rattle.worked.specs.Laws.Marked.{opens, nodes, free, used}
-use Rattle.worked.specs.Laws.Maximum.{stating, tight, insert_b, tight-opens, tight-plan, tight-free, tight-header}
-use Rattle.worked.specs.Laws.Planned.{accepted-by, refused-by, refused}
+use Rattle.worked.specs.Laws.Maximum.{tight, insert_b, tight-opens, tight-plan, tight-free, tight-header}
+use Rattle.worked.specs.Laws.Planned.{accepted-by, refused-by}
 use Rattle.worked.specs.Laws.OnMaster.{answer, image, after, sized, costless, resizes}
 
 -- a record of the small master, or of one that it was
@@ -218,7 +217,7 @@ in-table : (verdict_of insert_b (due 5 6823) (tight 0x1A) master_words 0x28 ≡ 
 unfolding verdict_of counted_verdict team_verdict max_size_from size_beside_free table_verdict place_verdict limits is_shallow is_shallow_from dirs_open_at texts_of encode entries_bytes parent_of parent_below
 in-table = (rw (tight-opens 0x1A, tight-plan 0x1A, tight-header.3), rw (tight-opens 0, tight-plan 0, tight-free, tight-header.2, tight-header.0, tight-header.1))
 
-sixteenth : team_verdict 16 ≡ Err NoSuchEntry
+pub sixteenth : team_verdict 16 ≡ Err NoSuchEntry
 unfolding team_verdict
 sixteenth = refl
 
