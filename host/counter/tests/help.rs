@@ -24,6 +24,10 @@ fn fixture() -> Temp {
     done("move", &disc, &["audio/theme.adp", "0x190000"]);
     temp.write("given.txt", b"/audio/theme.adp\n");
     temp.write("msg.bin", b"the new lines");
+    temp.write(
+        "teams.txt",
+        b"# number, limit, share, name\n0 none 256K English\n1 512K 128K French\n",
+    );
     temp.write("wishes.txt", b"/opening.bnr 0x1960\n/text/fr/lines.bin 4661\n");
     fs::create_dir_all(temp.at("parts/text")).unwrap();
     temp.write("parts/text/lines.bin", b"lines");
@@ -82,6 +86,8 @@ fn help_comes_in_every_way_and_is_about_its_command_alone() {
         "--anyway",
         "--without-record",
         "--record",
+        "--team",
+        "--teams",
         "--force",
         "--from",
         "--size",
