@@ -42,7 +42,14 @@ pub extern "C" fn counter_move_file(
         (loan image.old words.old bytes.old totals.old)
         (loan image.new words.new bytes.new totals.new) result }
 {
-    give_done(image, words, bytes, totals, team, Edit::Move { file, offset })
+    give_done(
+        image,
+        words,
+        bytes,
+        totals,
+        team,
+        Edit::Move { file, offset },
+    )
 }
 
 #[unsafe(no_mangle)]
@@ -59,7 +66,14 @@ pub extern "C" fn counter_resize_file(
         (loan image.old words.old bytes.old totals.old)
         (loan image.new words.new bytes.new totals.new) result }
 {
-    give_done(image, words, bytes, totals, team, Edit::Resize { file, size })
+    give_done(
+        image,
+        words,
+        bytes,
+        totals,
+        team,
+        Edit::Resize { file, size },
+    )
 }
 
 #[unsafe(no_mangle)]
