@@ -31,7 +31,7 @@ pub fn open(used: u32) -> Record {
 // Its text --------------------------------------------------------------------------------
 
 /// What it begins with, in every form.
-pub const BEGIN: &[u8] = b"counter record ";
+const BEGIN: &[u8] = b"counter record ";
 
 /// The first line of one without teams, and of one with teams.
 const FIRST: &str = "counter record 1\n";

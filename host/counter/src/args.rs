@@ -172,7 +172,7 @@ const DRY_NEW: Flag = Flag {
 const RECORD: Flag = Flag {
     name: "--record",
     value: Some(("FILE", Value::New)),
-    words: "keeps the record (used bytes, largest free region, edits) in FILE; see `counter help record`",
+    words: "keeps the record (used bytes, largest free region, edits, teams) in FILE; see `counter help record`",
 };
 const TEAM: Flag = Flag {
     name: "--team",
@@ -557,15 +557,16 @@ If used bytes or largest free region in FILE are not the image's, somebody edite
 another image's: the edit is not begun (65). Then make a new record with --force, or take FILE away. An edit \
 without FILE that left both numbers as they were is not noticed, and not counted. An edit after the \
 4,294,967,295th, of its team where there are teams, is refused (25).
-Teams: up to 16 edit an image by turns. With --teams the new record has those of LIST, a text file in UTF-8: a team \
-a line, its number (0 to 15), limit, share and name, parted by spaces. Limit and share are bytes, written as SIZE; \
-a limit of `none` or - is none. A name has at most 100 bytes, may have spaces in it, and be left out; none is a number. \
-Empty lines, and those that begin with #, say nothing. A LIST that is wrong is an error (65), which names the line; no \
-limit or share is refused, and what cannot come out even is told.
-With such a record every edit wants --team NAME or --team NUMBER (64). What it costs, the used bytes after it less \
-those before, is added to what its team has taken, which is never below 0. It is refused if that would be above the \
-team's limit (27), or if the free bytes after it would be fewer than what all other teams together have yet to take of \
-their shares (28); by how many bytes, is told, by --dry-run too. `counter record FILE` shows all teams. \
+Up to 16 teams edit an image by turns. With --teams the new record has those of LIST, a text file in UTF-8 with a line \
+for each: its number (0 to 15), limit, share and name, parted by spaces. Limit and share are bytes, written as SIZE; \
+a limit of `none` or - is none. A name has at most 100 bytes, is no number, may have spaces in it or be left out. \
+Empty lines, and those that begin with #, say nothing. A LIST that is wrong is an error (65), which names the line. No \
+limit or share is refused; shares that are together more than the free bytes, or above their limits, are told. Without \
+--record the record is only shown.
+With such a record every edit wants --team, the name or the number of a team that LIST has (64). What an edit costs, \
+the used bytes after it less those before, is added to what its team has taken, which is never below 0. It is refused \
+if that would be above the team's limit (27), or if fewer bytes would be free after it than all other teams together \
+have yet to take of their shares (28), and says by how many, as --dry-run does. `counter record FILE` shows all teams. \
 --force without --teams does not replace a record that has teams (73).";
 
 const FILL: &str = "\

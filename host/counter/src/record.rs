@@ -98,24 +98,20 @@ pub fn alone(image: &Image, desk: &mut Desk) -> Outcome<Turn> {
     Ok(Turn { account, team: 0 })
 }
 
-/// The record that an edit leaves in its file, if what its journal says of that is one. Of teams it is the one
-/// that has another count now whose edit it was.
+/// The record that an edit leaves in its file, if what its journal says of that is one. Its teams are those of
+/// the record before, and the one that has another count now is the one whose edit it was.
 pub fn of(totals: &Totals) -> Option<Turn> {
     let account = Account::parse(&totals.new).ok()?;
-    let old = match totals.old.is_empty() {
-        true => None,
-        false => Some(Account::parse(&totals.old).ok()?),
-    };
-    if account.names.is_empty() {
-        return Some(Turn { account, team: 0 });
+    if totals.old.is_empty() {
+        return account.names.is_empty().then_some(Turn { account, team: 0 });
     }
-    let old = old.filter(|old| old.names == account.names)?;
-    let mut teams = account.names.numbers();
-    let team = teams.find(|&number| {
-        let [old, new] = [&old, &account].map(|account| account.record.teams[number as usize]);
-        old.edits != new.edits
-    })?;
-    drop(teams);
+    let old = Account::parse(&totals.old).ok().filter(|old| old.names == account.names)?;
+    let counts = |account: &Account, number: u32| account.record.teams[number as usize].edits;
+    let counted = |number: &u32| counts(&old, *number) != counts(&account, *number);
+    let team = match account.names.is_empty() {
+        true => 0,
+        false => account.names.numbers().find(counted)?,
+    };
     Some(Turn { account, team })
 }
 

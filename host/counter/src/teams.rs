@@ -141,7 +141,14 @@ impl Listed {
         let given =
             |what: &str, word: &str| number(word.as_bytes()).map_err(|why| format!("{what} {why}"));
         let team = given("team", team)?;
-        let limit = if [NONE, "-"].contains(&limit) { OPEN } else { given("limit", limit)? };
+        let limit = match limit {
+            NONE | "-" => OPEN,
+            word if !is_number(word.as_bytes()) => {
+                let word = names::file(word);
+                return Err(format!("limit {word}: a number of bytes is wanted, or `{NONE}`"));
+            }
+            word => given("limit", word)?,
+        };
         let share = given("share", share)?;
         let name = words.collect::<Vec<_>>().join(" ");
         self.names.add(team, Some(name).filter(|name| !name.is_empty()))?;

@@ -220,6 +220,9 @@ fn bash_completes_commands_options_files_and_paths() {
         ["given.txt"]
     );
     assert_eq!(offered(&["counter", "move", "disc.iso", "--rec"]), ["--record"]);
+    assert_eq!(offered(&["counter", "move", "disc.iso", "--te"]), ["--team"]);
+    assert_eq!(offered(&["counter", "record", "disc.iso", "--teams", "te"]), ["teams.txt"]);
+    assert_eq!(offered(&["counter", "move", "--team", "1", "disc.iso", "/op"]), ["/opening.bnr"]);
     assert_eq!(
         offered(&["counter", "move", "--record", "given.txt", "disc.iso", "/op"]),
         ["/opening.bnr"]

@@ -298,6 +298,7 @@ fn a_journal_writes_no_file_but_a_record() {
         (none, teams),
         (none, torn),
         (record, teams),
+        (teams, record),
         (teams, teams),
     ] {
         let cut = Cut::new();

@@ -313,8 +313,8 @@ fn any_edits_by_three_teams() {
     let free = free.end - free.used();
     // Limit, share, taken, edits.
     let mut teams =
-        [[u64::from(u32::MAX), free / 3, 0, 0], [free / 3, free / 3, 0, 0], [900, free / 3, 0, 0]];
-    let list = format!("2 900 {0} c\n0 none {0} a\n1 {0} {0} b\n", free / 3);
+        [[u64::from(u32::MAX), 0, 0, 0], [free / 3, free / 2, 0, 0], [900, free / 2, 0, 0]];
+    let list = format!("2 900 {0} c\n0 none 0 a\n1 {1} {0} b\n", free / 2, free / 3);
     assert_eq!(make(&temp, &image, &list).status, 0);
     let file = temp.at("totals");
     let wanted = |teams: &[[u64; 4]; 3], table: &Table| {
@@ -513,9 +513,9 @@ fn a_list_that_is_wrong_is_told_with_its_line() {
         ("4294967296 1 1 a\n", ", line 1: team 4294967296: above 2^32 - 1"),
         ("-1 1 1 a\n", ", line 1: team -1: a number is wanted"),
         ("# x\nart 1 1\n", ", line 2: team art: a number is wanted"),
-        ("0 7,000 1 a\n", ", line 1: limit 7,000: a number is wanted, in base ten or with 0x"),
+        ("0 7,000 1 a\n", ", line 1: limit 7,000: a number of bytes is wanted, or `none`\n"),
         ("0 4G 1 a\n", ", line 1: limit 4G: above 2^32 - 1 (4,294,967,295)"),
-        ("0 open 1 a\n", ", line 1: limit open: a number is wanted"),
+        ("0 open 1 a\n", ", line 1: limit open: a number of bytes is wanted, or `none`\n"),
         ("0 1 none a\n", ", line 1: share none: a number is wanted"),
         ("0 1 -1 a\n", ", line 1: share -1: a number is wanted"),
         ("0 1\n", ", line 1: a team's number, its limit, its share and its name are wanted\n"),
