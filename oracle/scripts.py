@@ -51,7 +51,7 @@ class Script:
         self.oracle = oracle
         self.lines = []
         self.rust = self.rules = self.images = 0
-        self.held = None  # the record in use
+        self.held = None  # the record in use: used bytes, the largest free region, and of team 0 taken bytes and edits; its limit is MOST
 
     def heading(self, text):
         self.lines.append("# " + text)
@@ -89,7 +89,7 @@ class Script:
 
     def call(self, line, answer, source):
         """A line with its answer: numbers, and at the end a text."""
-        shown = [str(answer[0])] + [n(a) if isinstance(a, int) else text(a) for a in answer[1:]]
+        shown = [str(answer[0])] + [n(a) if isinstance(a, int) else a if isinstance(a, str) else text(a) for a in answer[1:]]
         self.lines.append(f"{line} = {' '.join(shown)}  # {source}")
         if source.startswith("Rust"):
             self.rust += 1
@@ -101,7 +101,8 @@ class Script:
     def edit(self, name, *arguments, note="", rules=None, why="", image=None, differs=True, record=None):
         """An edit. `rules`: the answer by the rules, `ok`, `ok NUMBER` or the number of a refusal, and `why` the Rust's is not it.
         `image`: where they accept what the Rust refuses or is not asked, a function that has the oracle make the image that they
-        describe. `differs`: whether the Rust has to say something else. `record`: what an accepted edit makes of the record in use."""
+        describe. `differs`: whether the Rust has to say something else. `record`: used bytes, the largest free region and the edits that
+        an accepted edit makes of the record in use."""
         before = self.oracle("used") if self.held else ""
         line = " ".join([CALLS.get(name, name)] + [shown(a) for a in arguments])
         command = " ".join([COMMANDS.get(name, name)] + [str(a) if isinstance(a, int) else a.hex() or "-" for a in arguments])
@@ -111,7 +112,7 @@ class Script:
             answer, source = self.by_hand(command, line, rules, image, differs), f"rules: {why}"
         if self.held and answer[0] == 0:
             self.moved_to(before, record, line)
-        self.call(line, [answer[0], int(self.oracle.checksum(), 16)] + answer[1:] + (self.held or []), source)
+        self.call(line, [answer[0], int(self.oracle.checksum(), 16)] + answer[1:] + self.record_held(), source)
 
     def by_hand(self, command, line, rules, image, differs):
         answer = [rules] if isinstance(rules, int) else [0] + [int(word) for word in rules.split()[1:]]
@@ -128,23 +129,34 @@ class Script:
     # ---- records
 
     def record(self, *numbers):
-        """From here on edits take this record; without numbers none."""
-        self.lines.append(" ".join(["record"] + [n(number) for number in numbers]))
-        self.held = list(numbers) or None
+        """From here on edits take this record, in which team 0 may take anything; without numbers none."""
+        self.held = None
+        if numbers:
+            used, largest, edits = numbers
+            self.held = [used, largest, 0, edits]
+        self.lines.append(" ".join(["record"] + [n(a) if isinstance(a, int) else a for a in self.record_held()]))
+
+    def record_held(self):
+        """The words of the record in use, if there is one; the other teams are all 0."""
+        if not self.held:
+            return []
+        used, largest, taken, edits = self.held
+        return [used, largest, f"{n(MOST)}:0:{n(taken)}:{n(edits)}"]
 
     def make_record(self, used, largest, why):
         """`make_record`, which the Rust has not: used bytes and the largest free region. What is not free is used."""
         sizes = [size for _, size in self.free_said()]
         assert [used, largest] == [int(self.oracle.setting("total")) - sum(sizes), max(sizes, default=0)], (why, sizes)
-        self.held = [used, largest, 0]
-        self.call("make_record", [0] + self.held, f"rules: {why}")
+        self.held = [used, largest, 0, 0]
+        self.call(f"make_record {n(MOST)}", [0] + self.record_held(), f"rules: {why}")
 
     def moved_to(self, before, record, line):
         """The record after an accepted edit: the Rust's used total has moved by as much, and its largest free region is this."""
         moved = int(self.oracle.setting("used")) - int(before.split()[1])
         largest = max((size for _, size in self.free_said()), default=0)
-        assert list(record) == [self.held[0] + moved, largest, self.held[2] + 1], (line, record, moved, largest)
-        self.held = list(record)
+        used, _, taken, edits = self.held
+        assert list(record) == [used + moved, largest, edits + 1], (line, record, moved, largest)
+        self.held = [used + moved, largest, max(0, taken + moved), edits + 1]
 
     # ---- calls that read
 
@@ -1736,11 +1748,11 @@ def records_made(s):
                                  (24, "a header that passes the image", lambda: s.patch(0x420, word(0x1F1D)))]:
         s.load()
         change()
-        s.look("make_record", rules=number, why=note, differs=False)
+        s.look("make_record", MOST, rules=number, why=note, differs=False)
         s.edit("rewrite", rules=number, why="the record stays", differs=False)
     s.load()
     s.lend(0xF, 0)
-    s.look("make_record", rules=9, why="one working word too few", differs=False)
+    s.look("make_record", MOST, rules=9, why="one working word too few", differs=False)
     s.edit("resize", 1, 0x100, rules=9, why="one working word too few", differs=False)
     s.lend(0x10, 0)
     s.make_record(1370, 6656, "no working byte is wanted")

@@ -259,9 +259,14 @@ uint32_t counter_seek_end(uint64_t window[COUNTER_WINDOW_SLOTS], int64_t distanc
 uint32_t counter_read(uint64_t window[COUNTER_WINDOW_SLOTS], const uint8_t *image, size_t image_len, uint8_t *buf, size_t buf_len,
     uint64_t answer[1]);
 
-/* ---- the record: three slots, used bytes, the size of the largest free region (0 if there is none), and how many edits were accepted */
+/* ---- the record: used bytes, the size of the largest free region (0 if there is none), and COUNTER_TEAM_SLOTS slots for each team, team 0
+ * first: its limit, its share, how many bytes it has taken, and how many of its edits were accepted.
+ *
+ * The teams edit one image by turns. None takes more bytes than its limit. Of the free bytes, what a team has not yet taken of its share is
+ * kept for it. */
 
-/* Makes a record of the image: its used total, its largest free region, no edit. With a number other than 0 the slots are as they were. */
+/* Makes a record of the image: its used total, its largest free region, and teams with these limits and shares, which have taken nothing
+ * and made no edit. Any limit and any share is accepted. With a number other than 0 the slots are as they were. */
 uint32_t counter_make_record(const uint8_t *image, size_t image_len, uint32_t *words, size_t words_len,
     const uint32_t limits[COUNTER_TEAMS], const uint32_t shares[COUNTER_TEAMS], uint32_t record[COUNTER_RECORD_SLOTS]);
 
@@ -273,11 +278,17 @@ uint32_t counter_make_record(const uint8_t *image, size_t image_len, uint32_t *w
  * table is no larger than the maximum is not refused for it. A resize to the present size and a clip of the file's own size write no table.
  * No edit writes the field.
  *
- * A record goes into every edit and comes back. Where the edit is accepted, used bytes have moved by as many as the image uses more or
- * less than before, the largest region is the new image's, and the count is larger by one; also where the image stays as it was, as after
- * a resize to the present size. So a record that counter_make_record made, and that went through every edit since, holds the image's
- * totals and the number of edits accepted since. It may hold other numbers too: used bytes and count then move from these. 25 if one of
- * the two would leave 0 to 2^32 - 1; this is the last test of all. */
+ * A record goes into every edit and comes back, and every edit carries a team: above 15 is 15, the first test after opening. An edit costs
+ * as many bytes as the image uses more after it than before; where it uses fewer, the cost is below 0. Where the edit is accepted, used
+ * bytes have moved by the cost, and the largest region is the new image's. What the team has taken has moved by the cost too, to 0 at least,
+ * and its count is larger by one; the other teams are as they were. All this also where the image stays as it was, as after a resize to the
+ * present size. So a record that counter_make_record made, and that went through every edit since, holds the image's totals and the number
+ * of each team's edits accepted since. It may hold other numbers too, which then move from there; what an edit costs is told by the image
+ * alone.
+ *
+ * The last tests of all, whatever the edit costs, in this order: 27 if what the team has taken and the cost together pass its limit. 28 if
+ * fewer bytes would be free than are kept for the other teams: added up as whole numbers, what each has not taken of its share, which is
+ * nothing where it has taken more. 25 if used bytes, or the team's count, would leave 0 to 2^32 - 1. */
 
 /* Adds an empty file (offset 0, size 0), or an empty directory, as last child of the directory `parent`: 15; 13 unsafe name; 17; 19 name
  * exists; 12 name byte. answer[1]: the new entry's number in the new table. */

@@ -14,6 +14,10 @@ static uint32_t words[COUNTER_MOST_WORDS];
 static uint8_t bytes[COUNTER_MOST_TABLE];
 static uint32_t list[COUNTER_ENTRY_WORDS * COUNTER_MOST_ENTRIES];
 
+/* Team 0 may take anything, and nothing is kept for any. */
+static const uint32_t limits[COUNTER_TEAMS] = {UINT32_MAX};
+static const uint32_t shares[COUNTER_TEAMS] = {0};
+
 /* A refusal leaves the image as it was; here it ends the program. */
 static void want(const char *what, uint32_t number)
 {
@@ -73,16 +77,17 @@ static void move_away(uint8_t *image, size_t len, const char *path)
     uint32_t entry[COUNTER_ENTRY_SLOTS];
     uint32_t place[COUNTER_ALLOCATE_SLOTS];
     uint32_t record[COUNTER_RECORD_SLOTS];
+    const uint32_t *team = record + 2; /* team 0's limit, share, bytes taken and edits */
     want(path, counter_lookup(image, len, words, COUNTER_MOST_WORDS, 0, (const uint8_t *)path, strlen(path), entry));
     if (entry[1] != 0) {
         fprintf(stderr, "%s: a directory\n", path);
         exit(1);
     }
     want("a place", counter_allocate(image, len, words, COUNTER_MOST_WORDS, entry[3], 4, place));
-    want("record", counter_make_record(image, len, words, COUNTER_MOST_WORDS, record));
-    want("move", counter_move_file(image, len, words, COUNTER_MOST_WORDS, bytes, COUNTER_MOST_TABLE, record, entry[0], place[0]));
+    want("record", counter_make_record(image, len, words, COUNTER_MOST_WORDS, limits, shares, record));
+    want("move", counter_move_file(image, len, words, COUNTER_MOST_WORDS, bytes, COUNTER_MOST_TABLE, record, 0, entry[0], place[0]));
     printf("moved %s from %u to %u\n", path, (unsigned)entry[2], (unsigned)place[0]);
-    printf("%u bytes used, %u in the largest free region, %u edit\n", (unsigned)record[0], (unsigned)record[1], (unsigned)record[2]);
+    printf("%u bytes used, %u in the largest free region, %u edit\n", (unsigned)record[0], (unsigned)record[1], (unsigned)team[3]);
 }
 
 /* The file's bytes, a part at a time, through a window. */

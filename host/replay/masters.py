@@ -170,7 +170,7 @@ def main():
     s.listing("total 131073 used 73265\nd 0 0 8 /\nf 1 32768 6496 /opening.bnr\nd 2 0 8 /text/\nd 3 2 6 /text/de/\nf 4 0 0 /text/de/empty\n"
               "f 5 98304 32769 /text/de/lines.bin\nd 6 2 8 /text/fr/\nf 7 65536 32767 /text/fr/lines.bin\nr 1233 31535\nr 39264 26272\nr 98303 1\n")
     s.look("program = 0 0 0", "there is none")
-    s.look("make_record = 0 73265 31535 0", "by hand")
+    s.look("make_record 0xffffffff = 0 73265 31535 0xffffffff:0:0:0", "by hand")
     print("record")
     s.files(0x20001, tree[::-1], 19, "not in byte order")
 

@@ -7,7 +7,9 @@ use crate::language::{Answer, Stop};
 use crate::zeros::Zeros;
 pub use counter_sys::ENTRY_WORDS;
 use counter_sys::guarded::{Element, Guarded};
-use counter_sys::{CLUSTER_WORDS, DOL_WORDS, HEADER_SIZE, RECORD_WORDS, REGION_WORDS, call};
+use counter_sys::{
+    CLUSTER_WORDS, DOL_WORDS, HEADER_SIZE, RECORD_WORDS, REGION_WORDS, Record, TEAMS, Team, call,
+};
 
 /// Words of a list lent beyond what an answer takes.
 const SPARE: usize = 3;
@@ -19,9 +21,6 @@ const LONGEST_LIST: usize = 1 << 20;
 /// The most entries of an image that opens, with the root.
 const MOST_ENTRIES: usize = 16_384;
 
-/// Used bytes, the largest free region, accepted edits.
-pub type Record = [u32; RECORD_WORDS];
-
 pub struct Lender {
     pub image: Guarded<u8>,
     before: Vec<u8>,
@@ -31,6 +30,8 @@ pub struct Lender {
     list: Option<usize>,
     /// The record in use: every edit takes it, and what comes back is kept.
     pub record: Option<Record>,
+    /// The team that edits carry while a record is in use.
+    pub team: u32,
 }
 
 /// A call on the image and the working words that fills a list; how many regions goes into the slot.
@@ -74,6 +75,17 @@ fn answered<T: Element, const N: usize>(cause: u32, slots: &mut Guarded<T>) -> A
     if cause == 0 { Ok(*slots.slots()) } else { Err(Stop::Refused(cause)) }
 }
 
+/// What an accepted edit of this team makes of a record, where it costs so much; none where it would leave the
+/// numbers that a record can hold.
+fn moved(given: Record, team: u32, cost: i64, largest: u32) -> Option<Record> {
+    let moved = |number: u32| i64::from(number) + cost;
+    let mut record = Record { used: moved(given.used).try_into().ok()?, largest, ..given };
+    let team = record.teams.get_mut(team as usize)?;
+    team.taken = moved(team.taken).max(0).try_into().ok()?;
+    team.edits = team.edits.checked_add(1)?;
+    Some(record)
+}
+
 impl Lender {
     pub fn new() -> Self {
         Self {
@@ -83,6 +95,7 @@ impl Lender {
             bytes: Guarded::new(2_097_152),
             list: None,
             record: None,
+            team: 0,
         }
     }
 
@@ -133,28 +146,41 @@ impl Lender {
         })
     }
 
-    /// An edit with `N` slots for its answer. It takes the record in use; where there is none, a fresh
-    /// one of the image, which is dropped.
+    /// An edit with `N` slots for its answer. It takes the record in use, and the team; where there is none, a
+    /// fresh one of the image, in which team 0 may take anything, and this is dropped.
     fn edit<const N: usize>(
         &mut self,
-        run: impl FnOnce(&mut [u8], &mut [u32], &mut [u8], &mut Record, &mut [u32; N]) -> u32,
+        run: impl FnOnce(
+            &mut [u8],
+            &mut [u32],
+            &mut [u8],
+            &mut [u32; RECORD_WORDS],
+            u32,
+            &mut [u32; N],
+        ) -> u32,
     ) -> Answer<[u32; N]> {
-        let fresh = match self.fresh_record() {
+        let fresh = match self.fresh_record([u32::MAX; TEAMS], [0; TEAMS]) {
             Err(Stop::Refused(number)) => Err(number),
             made => Ok(made?),
         };
-        let given = self.record.or(fresh.ok()).unwrap_or([u32::MARK; RECORD_WORDS]);
-        let mut record = Guarded::of(&given);
+        let marked = Record::of([u32::MARK; RECORD_WORDS]);
+        let given = self.record.or(fresh.ok()).unwrap_or(marked);
+        let team = if self.record.is_some() { self.team } else { 0 };
+        let mut record = Guarded::of(&given.slots());
         let lent = &mut record;
         let result = self.call(Does::Edit, |lender, answer| {
             let (words, bytes) = (lender.words.slice_mut(), lender.bytes.slice_mut());
-            run(lender.image.slice_mut(), words, bytes, lent.slots(), answer)
+            run(lender.image.slice_mut(), words, bytes, lent.slots(), team, answer)
         });
-        let back: Record = *record.slots();
+        let back = Record::of(*record.slots());
         self.record = self.record.map(|_| back);
         hold(record.margins_stay(), "beside record")?;
         match (&result, fresh) {
-            (Ok(_), Ok(before)) => hold(self.has_moved(given, back, before)?, "record")?,
+            (Ok(_), Ok(before)) => {
+                let [used, largest] = self.totals_afresh()?;
+                let cost = i64::from(used) - i64::from(before.used);
+                hold(Some(back) == moved(given, team, cost, largest), "record")?;
+            }
             (Ok(_), Err(_)) => hold(false, "record: refused where the edit is not")?,
             (Err(Stop::Refused(number)), made) => {
                 hold(back == given, "record")?;
@@ -167,10 +193,15 @@ impl Lender {
 
     // Records -------------------------------------------------------------------------------
 
-    fn fresh_record(&mut self) -> Answer<Record> {
-        self.look(|image, words, record| unsafe {
-            call!(counter_make_record(in image, mut words, = record))
-        })
+    fn fresh_record(&mut self, limits: [u32; TEAMS], shares: [u32; TEAMS]) -> Answer<Record> {
+        let (mut lent_limits, mut lent_shares) = (Guarded::of(&limits), Guarded::of(&shares));
+        let (most, kept) = (lent_limits.slots(), lent_shares.slots());
+        let result = self.look(|image, words, record| unsafe {
+            call!(counter_make_record(in image, mut words, = most, = kept, = record))
+        });
+        hold(lent_limits.margins_stay() && lent_limits.slice() == limits, "limits")?;
+        hold(lent_shares.margins_stay() && lent_shares.slice() == shares, "shares")?;
+        result.map(Record::of)
     }
 
     /// Used bytes and the largest free region as the calls tell them that have them. An image that
@@ -192,18 +223,13 @@ impl Lender {
         Ok([totals[1], found.map(|region| region[1]).max().unwrap_or(0)])
     }
 
-    /// `back` is what an accepted edit makes of `given`; `before`: a record of the image before it.
-    fn has_moved(&self, given: Record, back: Record, before: Record) -> Answer<bool> {
-        let [given, back, before] = [given, back, before].map(|record| record.map(i64::from));
-        let [used, largest] = self.totals_afresh()?.map(i64::from);
-        Ok(back == [given[0] + used - before[0], largest, given[2] + 1])
-    }
-
     /// Makes a record of the image and takes it into use; a refusal leaves what was in use.
-    pub fn make_record(&mut self) -> Answer<Record> {
-        let record = self.fresh_record()?;
+    pub fn make_record(&mut self, limits: [u32; TEAMS], shares: [u32; TEAMS]) -> Answer<Record> {
+        let record = self.fresh_record(limits, shares)?;
         let [used, largest] = self.totals_afresh()?;
-        hold(record == [used, largest, 0], "record: not as the other calls")?;
+        let team = |k| Team { limit: limits[k], share: shares[k], taken: 0, edits: 0 };
+        let wanted = Record { used, largest, teams: std::array::from_fn(team) };
+        hold(record == wanted, "record: not as the other calls")?;
         self.record = Some(record);
         Ok(record)
     }
@@ -438,9 +464,9 @@ impl Lender {
     pub fn insert_file(&mut self, parent: u32, name: &[u8]) -> Answer<u32> {
         let name = Guarded::of(name);
         let name = name.slice();
-        let [number] = self.edit(|image, words, bytes, record, answer| unsafe {
+        let [number] = self.edit(|image, words, bytes, record, team, answer| unsafe {
             call!(counter_insert_file(
-                mut image, mut words, mut bytes, = record, = parent, in name, = answer
+                mut image, mut words, mut bytes, = record, = team, = parent, in name, = answer
             ))
         })?;
         Ok(number)
@@ -449,9 +475,9 @@ impl Lender {
     pub fn insert_directory(&mut self, parent: u32, name: &[u8]) -> Answer<u32> {
         let name = Guarded::of(name);
         let name = name.slice();
-        let [number] = self.edit(|image, words, bytes, record, answer| unsafe {
+        let [number] = self.edit(|image, words, bytes, record, team, answer| unsafe {
             call!(counter_insert_directory(
-                mut image, mut words, mut bytes, = record, = parent, in name, = answer
+                mut image, mut words, mut bytes, = record, = team, = parent, in name, = answer
             ))
         })?;
         Ok(number)
@@ -460,31 +486,31 @@ impl Lender {
     pub fn make_directories(&mut self, start: u32, path: &[u8]) -> Answer<u32> {
         let path = Guarded::of(path);
         let path = path.slice();
-        let [number] = self.edit(|image, words, bytes, record, answer| unsafe {
+        let [number] = self.edit(|image, words, bytes, record, team, answer| unsafe {
             call!(counter_make_directories(
-                mut image, mut words, mut bytes, = record, = start, in path, = answer
+                mut image, mut words, mut bytes, = record, = team, = start, in path, = answer
             ))
         })?;
         Ok(number)
     }
 
     pub fn move_file(&mut self, number: u32, new_offset: u32) -> Answer<()> {
-        let [] = self.edit(|image, words, bytes, record, _| unsafe {
-            call!(counter_move_file(mut image, mut words, mut bytes, = record, = number, = new_offset))
+        let [] = self.edit(|image, words, bytes, record, team, _| unsafe {
+            call!(counter_move_file(mut image, mut words, mut bytes, = record, = team, = number, = new_offset))
         })?;
         Ok(())
     }
 
     pub fn resize_file(&mut self, number: u32, new_size: u32) -> Answer<()> {
-        let [] = self.edit(|image, words, bytes, record, _| unsafe {
-            call!(counter_resize_file(mut image, mut words, mut bytes, = record, = number, = new_size))
+        let [] = self.edit(|image, words, bytes, record, team, _| unsafe {
+            call!(counter_resize_file(mut image, mut words, mut bytes, = record, = team, = number, = new_size))
         })?;
         Ok(())
     }
 
     fn fill_with(&mut self, number: u32, clip: &[u8]) -> Answer<()> {
-        let [] = self.edit(|image, words, bytes, record, _| unsafe {
-            call!(counter_fill_file(mut image, mut words, mut bytes, = record, = number, in clip))
+        let [] = self.edit(|image, words, bytes, record, team, _| unsafe {
+            call!(counter_fill_file(mut image, mut words, mut bytes, = record, = team, = number, in clip))
         })?;
         Ok(())
     }
@@ -517,8 +543,8 @@ impl Lender {
     }
 
     pub fn rewrite(&mut self) -> Answer<()> {
-        let [] = self.edit(|image, words, bytes, record, _| unsafe {
-            call!(counter_rewrite(mut image, mut words, mut bytes, = record))
+        let [] = self.edit(|image, words, bytes, record, team, _| unsafe {
+            call!(counter_rewrite(mut image, mut words, mut bytes, = record, = team))
         })?;
         Ok(())
     }
@@ -577,7 +603,30 @@ mod tests {
             let mut lender = Lender::new();
             lender.image = Guarded::of(&image);
             assert!(matches!(lender.totals_afresh(), Err(Stop::Dirty(_))), "{}", image.len());
-            assert!(lender.has_moved([0; 3], [0; 3], [0; 3]).is_err());
+        }
+    }
+    /// Used bytes move as the image's, the team's taken bytes too, but to 0 at least; the others stay.
+    #[test]
+    fn a_record_moves() {
+        const MOST: u32 = u32::MAX;
+        let team = |k| Team { limit: k, share: k + 1, taken: k, edits: k + 3 };
+        let full = Team { taken: MOST, edits: MOST, ..Team::default() };
+        let mut given =
+            Record { used: 5, largest: 7, teams: std::array::from_fn(|k| team(k as u32)) };
+        given.teams[1] = full;
+        for (cost, used, taken) in [(6, 11, 15), (0, 5, 9), (-5, 0, 4)] {
+            let mut wanted = Record { used, largest: 8, ..given };
+            wanted.teams[9] = Team { taken, edits: 13, ..team(9) };
+            assert_eq!(moved(given, 9, cost, 8), Some(wanted));
+        }
+        let mut wanted = Record { used: 0, largest: 8, ..given };
+        wanted.teams[3] = Team { taken: 0, edits: 7, ..team(3) };
+        assert_eq!(moved(given, 3, -5, 8), Some(wanted));
+        // Used bytes below 0 and above the most; a count, taken bytes above it; no such team.
+        for (used, team, cost) in
+            [(4, 9, -5), (MOST, 9, 1), (5, 1, 0), (5, 1, 1), (5, 16, 0), (5, MOST, 0)]
+        {
+            assert_eq!(moved(Record { used, ..given }, team, cost, 8), None);
         }
     }
 }

@@ -1,5 +1,7 @@
 //! Words of a command line, and how bytes and numbers are written in it.
 
+use counter_sys::{TEAMS, Team};
+
 /// Why a command has no plain answer.
 pub enum Stop {
     /// Counter refused: the number of the cause.
@@ -53,6 +55,28 @@ impl<'a> Words<'a> {
         }
     }
 
+    /// A number of 32 bits for each team, team 0 first, parted by commas; 0 for those that are not named, and
+    /// `-` or nothing names none.
+    pub fn of_teams(&mut self) -> Answer<[u32; TEAMS]> {
+        let named = match self.0.next().unwrap_or("-") {
+            "-" => vec![],
+            text => text.split(',').map(word).collect::<Answer<_>>()?,
+        };
+        let mut all = [0; TEAMS];
+        all.get_mut(..named.len()).ok_or(Stop::Usage("too many teams"))?.copy_from_slice(&named);
+        Ok(all)
+    }
+
+    /// All other words, `LIMIT:SHARE:TAKEN:EDITS` for each team, team 0 first; 0 for those that are not named.
+    pub fn teams(&mut self) -> Answer<[Team; TEAMS]> {
+        let mut all = [Team::default(); TEAMS];
+        for (place, text) in all.iter_mut().zip(self.0.by_ref()) {
+            *place = team(text)?;
+        }
+        self.end()?;
+        Ok(all)
+    }
+
     /// Bytes in hexadecimal; `-` or nothing stands for none.
     pub fn bytes(&mut self) -> Answer<Vec<u8>> {
         unhex(self.0.next().unwrap_or("-"))
@@ -78,6 +102,14 @@ pub fn number(text: &str) -> Answer<u64> {
 
 fn word(text: &str) -> Answer<u32> {
     u32::try_from(number(text)?).map_err(|_| Stop::Usage("above 32 bits"))
+}
+
+fn team(text: &str) -> Answer<Team> {
+    let numbers = text.split(':').map(word).collect::<Answer<Vec<_>>>()?;
+    match numbers[..] {
+        [limit, share, taken, edits] => Ok(Team { limit, share, taken, edits }),
+        _ => Err(Stop::Usage("a team is LIMIT:SHARE:TAKEN:EDITS")),
+    }
 }
 
 fn size(text: &str) -> Answer<usize> {

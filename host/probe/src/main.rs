@@ -6,17 +6,21 @@
 //! - `lend_list N`: `ok`; from here on `free` and `clusters` lend a list of exactly N words (N of 64
 //!   bits), and `err 9` is a list that is too short. `lend_list -`, and so at the start: one that is
 //!   long enough, and it is held besides that the exact length does and a word less is 9;
-//! - `make_record`: `ok USED LARGEST EDITS`; a record of the current image, which is in use from here
-//!   on. Refused: what was in use, or none, stays;
-//! - `set_record USED LARGEST EDITS`: the same with these numbers, whatever the image is;
-//! - `record`: `ok USED LARGEST EDITS` of the record in use, or `ok none`;
+//! - `make_record LIMITS SHARES`: makes a record of the current image, which is in use from here on. Each of
+//!   the two: at most 16 numbers parted by commas, team 0 first, or `-`; teams that are not named get 0. Both,
+//!   or the second, may be left out. It answers as `record` does. Refused: what was in use, or none, stays;
+//! - `set_record USED LARGEST TEAM..`: the same with these numbers, whatever the image is. A team is
+//!   `LIMIT:SHARE:TAKEN:EDITS`, team 0 first; those that are not named are all 0;
+//! - `record`: `ok USED LARGEST` and 16 teams, as they are written above, of the record in use, or `ok none`;
 //! - `drop_record`: `ok`; none is in use, as at the start;
+//! - `team T`: `ok`; the team that edits carry from here on while a record is in use. T has 32 bits, at the
+//!   start it is 0;
 //! - `master DISC_END CODE SIZES PATHS`: `ok`; writes a new master into the current image, whatever that
 //!   holds, and keeps its length. CODE: the game code, 4 bytes. SIZES: numbers parted by commas, or `-`.
 //!   PATHS: the bytes of all paths, with the zero bytes that end them. It takes no record and alters none.
 //!
 //! Every edit hands in the record in use and keeps what comes back, from a refused call too. Where
-//! none is in use it hands in a fresh one of the image, and drops it.
+//! none is in use it hands in a fresh one of the image, with team 0 and limits that it cannot pass, and drops it.
 //!
 //! A refusal is `err N` with the number of its cause. `dirty WHAT` means that a call left working
 //! memory, the record, or something beside what it was lent, in another state than it promises.

@@ -4,7 +4,7 @@ use crate::calls::{CLUSTERS, ENTRY_WORDS, Lender, PerRegion, REGIONS};
 use crate::language::{Answer, FNV_START, Stop, Words, fnv, hex, number, signed};
 use crate::zeros::Zeros;
 use counter_sys::guarded::Guarded;
-use counter_sys::{RECORD_WORDS, ffi};
+use counter_sys::{Record, ffi};
 use std::collections::HashMap;
 use std::fmt::Write as _;
 use std::fs;
@@ -66,7 +66,9 @@ impl State {
                 self.bytes(command, words)
             }
             "window" | "filewindow" | "dolwindow" => self.window(command, words),
-            "make_record" | "set_record" | "record" | "drop_record" => self.record(command, words),
+            "make_record" | "set_record" | "record" | "drop_record" | "team" => {
+                self.record(command, words)
+            }
             "insert_file" | "insert_dir" | "mkdirs" | "move" | "resize" | "replace"
             | "replace_zeros" | "rewrite" => self.edit(command, words),
             "master" => self.master(words),
@@ -348,29 +350,39 @@ impl State {
     // The record ----------------------------------------------------------------------------
 
     fn record(&mut self, command: &str, mut words: Words) -> Answer<String> {
-        let mut given = [0; RECORD_WORDS];
-        if command == "set_record" {
-            for slot in &mut given {
-                *slot = words.word()?;
-            }
-        }
-        words.end()?;
         let lender = &mut self.lender;
         match command {
             "make_record" => {
-                lender.make_record()?;
+                let (limits, shares) = (words.of_teams()?, words.of_teams()?);
+                words.end()?;
+                lender.make_record(limits, shares)?;
             }
-            "set_record" => lender.record = Some(given),
+            "set_record" => {
+                let (used, largest) = (words.word()?, words.word()?);
+                lender.record = Some(Record { used, largest, teams: words.teams()? });
+            }
+            "record" => words.end()?,
             "drop_record" => {
+                words.end()?;
                 lender.record = None;
                 return Ok("ok".into());
             }
-            _ => (),
+            _ => {
+                let team = words.word()?;
+                words.end()?;
+                lender.team = team;
+                return Ok("ok".into());
+            }
         }
-        Ok(match lender.record {
-            Some([used, largest, edits]) => format!("ok {used} {largest} {edits}"),
-            None => "ok none".into(),
-        })
+        let Some(Record { used, largest, teams }) = lender.record else {
+            return Ok("ok none".into());
+        };
+        let mut out = format!("ok {used} {largest}");
+        for team in teams {
+            let [limit, share, taken, edits] = [team.limit, team.share, team.taken, team.edits];
+            write!(out, " {limit}:{share}:{taken}:{edits}").unwrap();
+        }
+        Ok(out)
     }
 
     // Editing -------------------------------------------------------------------------------

@@ -1,6 +1,6 @@
 //! The probe on the small master: its listing, P1 to P12, every refusal number once,
 //! free regions in clusters, a program behind the table or before it, lists of edits, files filled
-//! from given bytes, records, the stated table maximum, new masters, and calls with too little memory
+//! from given bytes, records, teams, the stated table maximum, new masters, and calls with too little memory
 //! or too short a list.
 //! `dirty` is never an answer.
 
@@ -19,6 +19,9 @@ const MASTER: [&str; 6] = [
     "patch 0x434 00002000",
     "patch 0x440 0100000000000000000000020000000000000500000001006100",
 ];
+
+/// A record of the image with a team 0 that may take anything, and no share.
+const OPEN: &str = "make_record 4294967295";
 
 fn hex(bytes: &[u8]) -> String {
     if bytes.is_empty() {
@@ -57,6 +60,15 @@ fn answers(commands: &[String]) -> Vec<String> {
     answers
 }
 
+/// A record's answer whose teams end in ` ..`: those behind them are all 0.
+fn with_all_teams(answer: &str) -> String {
+    let Some(named) = answer.strip_suffix(" ..") else {
+        return answer.into();
+    };
+    let teams = named.split(' ').count() - 3;
+    named.to_string() + &" 0:0:0:0".repeat(16 - teams)
+}
+
 /// Each list of commands on a fresh small master; its last answer.
 fn hold(cases: &[(&[&str], &str)]) {
     let mut commands: Vec<String> = vec![];
@@ -67,7 +79,7 @@ fn hold(cases: &[(&[&str], &str)]) {
     }
     let answers = answers(&commands);
     for (end, (list, expected)) in ends.into_iter().zip(cases) {
-        assert_eq!(answers[end], *expected, "{list:?}");
+        assert_eq!(answers[end], with_all_teams(expected), "{list:?}");
     }
 }
 
@@ -139,8 +151,11 @@ fn every_refusal() {
         (&["window 1 1 e:-3"], "ok e=18446744073709551614"),
         (&["patch 0x420 00001f1d", "dol"], "err 24"),
         (&["patch 0x420 00001f1c", "dol"], "ok 0 0 0 cbf29ce484222325"),
-        (&["lend 16 0x1a", "set_record 0 0 4294967295", "rewrite"], "err 25"),
+        (&["lend 16 0x1a", "set_record 0 0 0:0:0:4294967295", "rewrite"], "err 25"),
         (&["patch 0x42c 00000019", "rewrite"], "err 26"),
+        (&["set_record 0 0 0:0:1:0", "rewrite"], "err 27"),
+        (&["make_record - 0,6823", "rewrite"], "err 28"),
+        (&["team 16", "rewrite"], "err 15"),
     ]);
 }
 
@@ -336,7 +351,9 @@ fn lists_of_a_named_length() {
 fn usage() {
     let mut commands = MASTER.map(String::from).to_vec();
     commands.extend(["lend_list 5", "lend 16 0x1a", "save here", "hash"].map(String::from));
-    commands.push("set_record 7 8 9".into());
+    commands.push("set_record 7 8 4294967295:0:0:9".into());
+    commands.push("team 0".into());
+    let seventeen = format!("set_record 1 2{}", " 1:2:3:4".repeat(17));
     let wrong = [
         ("lend 16", "usage a word is missing"),
         ("lend 15 0 0", "usage too many words"),
@@ -368,21 +385,45 @@ fn usage() {
         ("replace_zeros 1 8589934593", "usage too long"),
         ("replace_zeros 1 18446744073709551615", "usage too long"),
         ("replace_zeros 1 18446744073709551616", "usage not a number"),
-        ("make_record 1", "usage too many words"),
-        ("make_record 4294967296", "usage too many words"),
         ("make_record 1 2 3", "usage too many words"),
+        ("make_record - - -", "usage too many words"),
+        ("make_record 4294967296", "usage above 32 bits"),
+        ("make_record - 4294967296", "usage above 32 bits"),
+        ("make_record 1,4294967296", "usage above 32 bits"),
+        ("make_record 18446744073709551616", "usage not a number"),
+        ("make_record 1,", "usage not a number"),
+        ("make_record ,1", "usage not a number"),
+        ("make_record 1,,2", "usage not a number"),
+        ("make_record 1 -,2", "usage not a number"),
+        ("make_record 1 -1", "usage not a number"),
+        ("make_record 1:2", "usage not a number"),
+        ("make_record 0,1,2,3,4,5,6,7,8,9,10,11,12,13,14,15,16", "usage too many teams"),
+        ("make_record - 0,1,2,3,4,5,6,7,8,9,10,11,12,13,14,15,16", "usage too many teams"),
         ("set_record", "usage a word is missing"),
         ("set_record 1", "usage a word is missing"),
-        ("set_record 1 2", "usage a word is missing"),
-        ("set_record 1 2 3 4", "usage too many words"),
-        ("set_record 1 2 3 4294967296", "usage too many words"),
-        ("set_record 4294967296 2 3", "usage above 32 bits"),
-        ("set_record 1 4294967296 3", "usage above 32 bits"),
-        ("set_record 1 2 4294967296", "usage above 32 bits"),
-        ("set_record 0x100000000 0x0 0x1", "usage above 32 bits"),
-        ("set_record 18446744073709551616 2 3", "usage not a number"),
-        ("set_record 1 2 -1", "usage not a number"),
+        ("set_record 4294967296 2", "usage above 32 bits"),
+        ("set_record 1 4294967296 3:0:0:0", "usage above 32 bits"),
+        ("set_record 1 2 4294967296:0:0:0", "usage above 32 bits"),
+        ("set_record 1 2 0:4294967296:0:0", "usage above 32 bits"),
+        ("set_record 1 2 0:0:4294967296:0", "usage above 32 bits"),
+        ("set_record 1 2 0:0:0:0 0:0:0:0x100000000", "usage above 32 bits"),
+        ("set_record 18446744073709551616 2", "usage not a number"),
+        ("set_record - 2", "usage not a number"),
         ("set_record 1 2 -", "usage not a number"),
+        ("set_record 1 2 -1:0:0:0", "usage not a number"),
+        ("set_record 1 2 0::0:0", "usage not a number"),
+        ("set_record 1 2 0:0:0:", "usage not a number"),
+        ("set_record 1 2 0,0,0,0", "usage not a number"),
+        ("set_record 1 2 3", "usage a team is LIMIT:SHARE:TAKEN:EDITS"),
+        ("set_record 1 2 0:0:0", "usage a team is LIMIT:SHARE:TAKEN:EDITS"),
+        ("set_record 1 2 0:0:0:0:0", "usage a team is LIMIT:SHARE:TAKEN:EDITS"),
+        (&seventeen, "usage too many words"),
+        ("team", "usage a word is missing"),
+        ("team 1 2", "usage too many words"),
+        ("team -", "usage not a number"),
+        ("team -1", "usage not a number"),
+        ("team 4294967296", "usage above 32 bits"),
+        ("teams 1", "usage no such command"),
         ("record 1", "usage too many words"),
         ("record 1 2 3", "usage too many words"),
         ("record 4294967296", "usage too many words"),
@@ -405,13 +446,14 @@ fn usage() {
     commands.extend(wrong.map(|(line, _)| line.into()));
     commands.extend(["hash", "record", "rewrite", "clusters"].map(String::from));
     let answers = said(&commands);
-    let from = MASTER.len() + 5;
+    let from = MASTER.len() + 6;
     for ((line, expected), answer) in wrong.iter().zip(&answers[from..]) {
         assert_eq!(answer, expected, "{line}");
     }
     let end = from + wrong.len();
-    assert_eq!(answers[from - 2], answers[end], "the image");
-    assert_eq!(answers[end + 1], "ok 7 8 9", "the record");
+    assert_eq!(answers[from - 3], answers[end], "the image");
+    let record = with_all_teams("ok 7 8 4294967295:0:0:9 ..");
+    assert_eq!(answers[end + 1], record, "the record");
     assert_eq!(answers[end + 2..], ["ok", "err 9"], "the memory and the list");
 }
 
@@ -551,41 +593,59 @@ fn records() {
         (&["insert_file 0 62"], "err 9"),
         (&["record"], "ok none"),
         (&["lend 65544 2097152", "drop_record"], "ok"),
-        (&["make_record"], "ok 1370 6656 0"),
-        (&["record"], "ok 1370 6656 0"),
-        (&["make_record", "resize 1 756", "record"], "ok 1870 6156 1"),
+        (&[OPEN], "ok 1370 6656 4294967295:0:0:0 .."),
+        (&["record"], "ok 1370 6656 4294967295:0:0:0 .."),
+        (&[OPEN, "resize 1 756", "record"], "ok 1870 6156 4294967295:0:500:1 .."),
         // Made anew: no edit.
-        (&["resize 1 756", "make_record"], "ok 1870 6156 0"),
+        (&["resize 1 756", OPEN], "ok 1870 6156 4294967295:0:0:0 .."),
         // All else that is accepted counts too.
-        (&["make_record", "resize 1 256", "record"], "ok 1370 6656 1"),
-        (&["make_record", "rewrite", "record"], "ok 1370 6656 1"),
-        (&["make_record", "mkdirs 0 -", "record"], "ok 1370 6656 1"),
-        (&["make_record", &zeros, "record"], "ok 1370 6656 1"),
-        (&["make_record", "replace_zeros 1 256", "record"], "ok 1370 6656 1"),
-        (&["make_record", "insert_file 0 62", "record"], "ok 1384 6656 1"),
-        (&["make_record", "insert_dir 0 6262", "record"], "ok 1385 6656 1"),
-        (&["make_record", "mkdirs 0 6e2f6d", "record"], "ok 1398 6656 1"),
-        (&["make_record", "move 1 0x600", "record"], "ok 1370 6400 1"),
-        (&["make_record", "replace 1 aabb", "record"], "ok 1116 6910 1"),
-        (&["make_record", "replace_zeros 1 756", "record"], "ok 1870 6156 1"),
-        (&["make_record", "resize 1 0x1b00", "record"], "ok 8026 166 1"),
+        (&[OPEN, "resize 1 256", "record"], "ok 1370 6656 4294967295:0:0:1 .."),
+        (&[OPEN, "rewrite", "record"], "ok 1370 6656 4294967295:0:0:1 .."),
+        (&[OPEN, "mkdirs 0 -", "record"], "ok 1370 6656 4294967295:0:0:1 .."),
+        (&[OPEN, &zeros, "record"], "ok 1370 6656 4294967295:0:0:1 .."),
+        (&[OPEN, "replace_zeros 1 256", "record"], "ok 1370 6656 4294967295:0:0:1 .."),
+        (&[OPEN, "insert_file 0 62", "record"], "ok 1384 6656 4294967295:0:14:1 .."),
+        (&[OPEN, "insert_dir 0 6262", "record"], "ok 1385 6656 4294967295:0:15:1 .."),
+        (&[OPEN, "mkdirs 0 6e2f6d", "record"], "ok 1398 6656 4294967295:0:28:1 .."),
+        (&[OPEN, "move 1 0x600", "record"], "ok 1370 6400 4294967295:0:0:1 .."),
+        (&[OPEN, "replace 1 aabb", "record"], "ok 1116 6910 4294967295:0:0:1 .."),
+        (&[OPEN, "replace_zeros 1 756", "record"], "ok 1870 6156 4294967295:0:500:1 .."),
+        (&[OPEN, "resize 1 0x1b00", "record"], "ok 8026 166 4294967295:0:6656:1 .."),
         // The table's last six bytes are slack: a write of the table gives them back.
-        (&["patch 0x428 00000020", "make_record"], "ok 1376 6656 0"),
-        (&["patch 0x428 00000020", "make_record", "rewrite", "record"], "ok 1370 6656 1"),
-        (&["patch 0x428 00000020", "make_record", "move 1 0x600", "record"], "ok 1370 6400 1"),
-        (&["patch 0x428 00000020", "make_record", "resize 1 256", "record"], "ok 1376 6656 1"),
-        (&["patch 0x428 00000020", "make_record", "resize 1 257", "record"], "ok 1371 6655 1"),
+        (&["patch 0x428 00000020", OPEN], "ok 1376 6656 4294967295:0:0:0 .."),
+        (&["patch 0x428 00000020", OPEN, "rewrite", "record"], "ok 1370 6656 4294967295:0:0:1 .."),
+        (
+            &["patch 0x428 00000020", OPEN, "move 1 0x600", "record"],
+            "ok 1370 6400 4294967295:0:0:1 ..",
+        ),
+        (
+            &["patch 0x428 00000020", OPEN, "resize 1 256", "record"],
+            "ok 1376 6656 4294967295:0:0:1 ..",
+        ),
+        (
+            &["patch 0x428 00000020", OPEN, "resize 1 257", "record"],
+            "ok 1371 6655 4294967295:0:0:1 ..",
+        ),
         // No free region.
-        (&["patch 0x434 0000045a", "patch 0x454 00000000", "make_record"], "ok 1114 0 0"),
-        (&["patch 0x434 0000045a", "patch 0x454 00000000", "rewrite", "record"], "ok 1114 0 1"),
+        (&["patch 0x434 0000045a", "patch 0x454 00000000", OPEN], "ok 1114 0 4294967295:0:0:0 .."),
+        (
+            &["patch 0x434 0000045a", "patch 0x454 00000000", "rewrite", "record"],
+            "ok 1114 0 4294967295:0:0:1 ..",
+        ),
         // A program of 0xe4 bytes behind the table.
-        (&["patch 0x420 00001000", "make_record"], "ok 1598 3868 0"),
-        (&["patch 0x420 00001000", "make_record", "resize 1 0xb00", "record"], "ok 4158 3868 1"),
-        (&["patch 0x420 00001000", "make_record", "move 1 0x10e4", "record"], "ok 1598 3612 1"),
+        (&["patch 0x420 00001000", OPEN], "ok 1598 3868 4294967295:0:0:0 .."),
+        (
+            &["patch 0x420 00001000", OPEN, "resize 1 0xb00", "record"],
+            "ok 4158 3868 4294967295:0:2560:1 ..",
+        ),
+        (
+            &["patch 0x420 00001000", OPEN, "move 1 0x10e4", "record"],
+            "ok 1598 3612 4294967295:0:0:1 ..",
+        ),
         // Handed on, with refusals between.
         (
             &[
-                "make_record",
+                OPEN,
                 "resize 1 756",
                 "resize 1 0x1b01",
                 "move 1 2048",
@@ -594,7 +654,7 @@ fn records() {
                 "resize 1 0",
                 "record",
             ],
-            "ok 1114 7078 3",
+            "ok 1114 7078 4294967295:0:0:3 ..",
         ),
         (&["drop_record", "resize 1 756", "record"], "ok none"),
     ]);
@@ -606,33 +666,36 @@ fn records_stay() {
     let file = format!("{}/records_stay", env!("CARGO_TARGET_TMPDIR"));
     let (dump, image) = (format!("dump {file}"), format!("image {file}"));
     hold(&[
-        (&["set_record 0xffffffff 0x0 0x1"], "ok 4294967295 0 1"),
-        (&["record"], "ok 4294967295 0 1"),
-        (&["set_record 1 2 3"], "ok 1 2 3"),
-        (&["record"], "ok 1 2 3"),
-        (&["move 1 0x501", "record"], "ok 1 2 3"),
-        (&["resize 0 0", "record"], "ok 1 2 3"),
-        (&["insert_file 0 61", "record"], "ok 1 2 3"),
-        (&["insert_dir 0 2f", "record"], "ok 1 2 3"),
-        (&["mkdirs 0 61", "record"], "ok 1 2 3"),
-        (&["replace 2 00", "record"], "ok 1 2 3"),
-        (&["replace_zeros 1 4294967296", "record"], "ok 1 2 3"),
-        (&["lend 16 0x19", "rewrite", "record"], "ok 1 2 3"),
-        (&["lend 65544 2097152", "record"], "ok 1 2 3"),
+        (&["set_record 0xffffffff 0x0 0xffffffff:0:0:0x1"], "ok 4294967295 0 4294967295:0:0:1 .."),
+        (&["record"], "ok 4294967295 0 4294967295:0:0:1 .."),
+        (&["set_record 1 2 4294967295:0:0:3"], "ok 1 2 4294967295:0:0:3 .."),
+        (&["record"], "ok 1 2 4294967295:0:0:3 .."),
+        (&["move 1 0x501", "record"], "ok 1 2 4294967295:0:0:3 .."),
+        (&["resize 0 0", "record"], "ok 1 2 4294967295:0:0:3 .."),
+        (&["insert_file 0 61", "record"], "ok 1 2 4294967295:0:0:3 .."),
+        (&["insert_dir 0 2f", "record"], "ok 1 2 4294967295:0:0:3 .."),
+        (&["mkdirs 0 61", "record"], "ok 1 2 4294967295:0:0:3 .."),
+        (&["replace 2 00", "record"], "ok 1 2 4294967295:0:0:3 .."),
+        (&["replace_zeros 1 4294967296", "record"], "ok 1 2 4294967295:0:0:3 .."),
+        (&["lend 16 0x19", "rewrite", "record"], "ok 1 2 4294967295:0:0:3 .."),
+        (&["lend 65544 2097152", "record"], "ok 1 2 4294967295:0:0:3 .."),
         // An image that does not open.
-        (&["size 0x43f", "make_record"], "err 1"),
+        (&["size 0x43f", OPEN], "err 1"),
         (&["size 0x43f", "rewrite"], "err 1"),
-        (&["patch 0x1c 00", "make_record"], "err 3"),
-        (&["patch 0x450 00000459", "make_record"], "err 14"),
-        (&["patch 0x420 00001f1d", "make_record"], "err 24"),
-        (&["lend 15 0", "make_record"], "err 9"),
-        (&["record"], "ok 1 2 3"),
-        (&["lend 65544 2097152", &dump, &image, "record"], "ok 1 2 3"),
-        (&["save x", "size 0", "load x", "record"], "ok 1 2 3"),
-        (&["listing", "free", "used", "alloc 1 1", "lend_list -", "record"], "ok 1 2 3"),
-        (&["drop_record", "size 0", "make_record"], "err 1"),
+        (&["patch 0x1c 00", OPEN], "err 3"),
+        (&["patch 0x450 00000459", OPEN], "err 14"),
+        (&["patch 0x420 00001f1d", OPEN], "err 24"),
+        (&["lend 15 0", OPEN], "err 9"),
+        (&["record"], "ok 1 2 4294967295:0:0:3 .."),
+        (&["lend 65544 2097152", &dump, &image, "record"], "ok 1 2 4294967295:0:0:3 .."),
+        (&["save x", "size 0", "load x", "record"], "ok 1 2 4294967295:0:0:3 .."),
+        (
+            &["listing", "free", "used", "alloc 1 1", "lend_list -", "record"],
+            "ok 1 2 4294967295:0:0:3 ..",
+        ),
+        (&["drop_record", "size 0", OPEN], "err 1"),
         (&["record"], "ok none"),
-        (&["lend 16 0", "make_record"], "ok 1370 6656 0"),
+        (&["lend 16 0", OPEN], "ok 1370 6656 4294967295:0:0:0 .."),
     ]);
 }
 
@@ -641,9 +704,12 @@ fn records_stay() {
 fn records_that_hold_anything() {
     hold(&[
         // The count.
-        (&["set_record 1370 6656 4294967294", "rewrite", "record"], "ok 1370 6656 4294967295"),
-        (&["set_record 1370 6656 4294967295", "rewrite"], "err 25"),
-        (&["record"], "ok 1370 6656 4294967295"),
+        (
+            &["set_record 1370 6656 4294967295:0:0:4294967294", "rewrite", "record"],
+            "ok 1370 6656 4294967295:0:0:4294967295 ..",
+        ),
+        (&["set_record 1370 6656 4294967295:0:0:4294967295", "rewrite"], "err 25"),
+        (&["record"], "ok 1370 6656 4294967295:0:0:4294967295 .."),
         (&["resize 1 256"], "err 25"),
         (&["mkdirs 0 -"], "err 25"),
         (&["mkdirs 0 62"], "err 25"),
@@ -653,23 +719,47 @@ fn records_that_hold_anything() {
         (&["replace 1 -"], "err 25"),
         (&["replace_zeros 1 256"], "err 25"),
         // Used bytes: below 0.
-        (&["set_record 0 0 0", "resize 1 255"], "err 25"),
-        (&["set_record 0 0 0", "replace 1 -"], "err 25"),
-        (&["set_record 1 0 0", "resize 1 255", "record"], "ok 0 6657 1"),
-        (&["set_record 5 0 0", "patch 0x428 00000020", "rewrite"], "err 25"),
-        (&["set_record 6 0 0", "patch 0x428 00000020", "rewrite", "record"], "ok 0 6656 1"),
-        (&["set_record 0 0 0", "patch 0x428 00000020", "resize 1 262", "record"], "ok 0 6650 1"),
+        (&["set_record 0 0 4294967295:0:0:0", "resize 1 255"], "err 25"),
+        (&["set_record 0 0 4294967295:0:0:0", "replace 1 -"], "err 25"),
+        (
+            &["set_record 1 0 4294967295:0:0:0", "resize 1 255", "record"],
+            "ok 0 6657 4294967295:0:0:1 ..",
+        ),
+        (&["set_record 5 0 4294967295:0:0:0", "patch 0x428 00000020", "rewrite"], "err 25"),
+        (
+            &["set_record 6 0 4294967295:0:0:0", "patch 0x428 00000020", "rewrite", "record"],
+            "ok 0 6656 4294967295:0:0:1 ..",
+        ),
+        (
+            &["set_record 0 0 4294967295:0:0:0", "patch 0x428 00000020", "resize 1 262", "record"],
+            "ok 0 6650 4294967295:0:0:1 ..",
+        ),
         // And above 2^32 - 1.
-        (&["set_record 4294967295 0 0", "resize 1 257"], "err 25"),
-        (&["set_record 4294967294 0 0", "resize 1 257", "record"], "ok 4294967295 6655 1"),
-        (&["set_record 4294967282 0 0", "insert_file 0 62"], "err 25"),
-        (&["set_record 4294967281 0 0", "insert_file 0 62", "record"], "ok 4294967295 6656 1"),
-        (&["set_record 4294967295 0 0", "move 1 0x600", "record"], "ok 4294967295 6400 1"),
+        (&["set_record 4294967295 0 4294967295:0:0:0", "resize 1 257"], "err 25"),
+        (
+            &["set_record 4294967294 0 4294967295:0:0:0", "resize 1 257", "record"],
+            "ok 4294967295 6655 4294967295:0:1:1 ..",
+        ),
+        (&["set_record 4294967282 0 4294967295:0:0:0", "insert_file 0 62"], "err 25"),
+        (
+            &["set_record 4294967281 0 4294967295:0:0:0", "insert_file 0 62", "record"],
+            "ok 4294967295 6656 4294967295:0:14:1 ..",
+        ),
+        (
+            &["set_record 4294967295 0 4294967295:0:0:0", "move 1 0x600", "record"],
+            "ok 4294967295 6400 4294967295:0:0:1 ..",
+        ),
         // Whatever the largest region is said to be.
-        (&["set_record 5 4294967295 7", "resize 1 256", "record"], "ok 5 6656 8"),
-        (&["set_record 5 0 7", "rewrite", "record"], "ok 5 6656 8"),
+        (
+            &["set_record 5 4294967295 4294967295:0:0:7", "resize 1 256", "record"],
+            "ok 5 6656 4294967295:0:0:8 ..",
+        ),
+        (
+            &["set_record 5 0 4294967295:0:0:7", "rewrite", "record"],
+            "ok 5 6656 4294967295:0:0:8 ..",
+        ),
         // Every other cause comes first; the table's 9 and 21 too.
-        (&["set_record 0 0 4294967295", "patch 0x1c 00", "rewrite"], "err 3"),
+        (&["set_record 0 0 4294967295:0:0:4294967295", "patch 0x1c 00", "rewrite"], "err 3"),
         (&["patch 0x450 00000459", "resize 1 0"], "err 14"),
         (&["resize 2 0"], "err 15"),
         (&["resize 0 0"], "err 16"),
@@ -686,7 +776,168 @@ fn records_that_hold_anything() {
         (&["lend 16 0x19", "rewrite"], "err 9"),
         (&["lend 16 0x1a", "rewrite"], "err 25"),
         (&["lend 16 0", "resize 1 256"], "err 25"),
-        (&["record"], "ok 0 0 4294967295"),
+        (&["record"], "ok 0 0 4294967295:0:0:4294967295 .."),
+    ]);
+}
+
+/// What a team may take, what is kept free for the others, and a record's numbers after that. `a` has 256 of
+/// 6,912 bytes that it can have; 6,822 of the image are free.
+#[test]
+fn teams() {
+    const TWO: &str = "make_record 500,4294967295 100,6000";
+    const THIRD: &str = "make_record 4294967295,4294967295,4294967295 0,0,167";
+    hold(&[
+        (&["make_record"], "ok 1370 6656 .."),
+        (&["make_record - -"], "ok 1370 6656 .."),
+        (&["make_record 5"], "ok 1370 6656 5:0:0:0 .."),
+        (&["make_record 5 -"], "ok 1370 6656 5:0:0:0 .."),
+        (&["make_record - 1,0x10"], "ok 1370 6656 0:1:0:0 0:16:0:0 .."),
+        (&["make_record 1,2,3 4294967295"], "ok 1370 6656 1:4294967295:0:0 2:0:0:0 3:0:0:0 .."),
+        (&[TWO], "ok 1370 6656 500:100:0:0 4294967295:6000:0:0 .."),
+        (&["resize 1 757"], "err 27"),
+        (&["record"], "ok 1370 6656 500:100:0:0 4294967295:6000:0:0 .."),
+        (&["resize 1 756"], "ok"),
+        (&["record"], "ok 1870 6156 500:100:500:1 4294967295:6000:0:0 .."),
+        // It has taken its limit, and all but 500 of its share; the other team has neither.
+        (&["rewrite", "resize 1 257"], "err 27"),
+        (&["insert_file 0 62"], "err 27"),
+        (&["mkdirs 0 62"], "err 27"),
+        (&["replace_zeros 1 257"], "err 27"),
+        (&["resize 1 1", "record"], "ok 1615 6911 500:100:245:3 4294967295:6000:0:0 .."),
+        (
+            &["team 1", "resize 1 257", "record"],
+            "ok 1616 6655 500:100:245:3 4294967295:6000:1:1 ..",
+        ),
+        // All 16 are told.
+        (&["make_record - 1,2,3,4,5,6,7,8,9,10,11,12,13,14,15,16", "team 2"], "ok"),
+        (
+            &["record"],
+            "ok 1370 6656 0:1:0:0 0:2:0:0 0:3:0:0 0:4:0:0 0:5:0:0 0:6:0:0 0:7:0:0 0:8:0:0 0:9:0:0 \
+             0:10:0:0 0:11:0:0 0:12:0:0 0:13:0:0 0:14:0:0 0:15:0:0 0:16:0:0",
+        ),
+        (
+            &["resize 1 255", "record"],
+            "ok 1369 6657 0:1:0:0 0:2:0:0 0:3:0:1 0:4:0:0 0:5:0:0 0:6:0:0 0:7:0:0 0:8:0:0 0:9:0:0 \
+             0:10:0:0 0:11:0:0 0:12:0:0 0:13:0:0 0:14:0:0 0:15:0:0 0:16:0:0",
+        ),
+        // A cost below 0: what is taken goes down by it, to 0 at least.
+        (&["team 0", "set_record 9000 1 9:0:5:3"], "ok 9000 1 9:0:5:3 .."),
+        (&["resize 1 252", "record"], "ok 8996 6660 9:0:1:4 .."),
+        (&["resize 1 250", "record"], "ok 8990 6662 9:0:0:5 .."),
+        (&["set_record 9000 1 9:0:5:3", "resize 1 251", "record"], "ok 8995 6661 9:0:0:4 .."),
+        // 27 and 28 whatever an edit costs.
+        (&["set_record 9 9 5:0:9:9", "rewrite"], "err 27"),
+        (&["resize 1 256"], "err 27"),
+        (&["replace_zeros 1 256"], "err 27"),
+        (&["mkdirs 0 -"], "err 27"),
+        (&["move 1 0x600"], "err 27"),
+        (&["resize 1 253"], "err 27"),
+        (&["record"], "ok 9 9 5:0:9:9 .."),
+        (&["resize 1 252", "record"], "ok 5 6660 5:0:5:10 .."),
+        (&["make_record 0 0,6823", "rewrite"], "err 28"),
+        (&["resize 1 256"], "err 28"),
+        (&["replace_zeros 1 256"], "err 28"),
+        (&["make_record 0 0,6822", "rewrite", "record"], "ok 1370 6656 0:0:0:1 0:6822:0:0 .."),
+        (&["make_record 0 0,6823", "resize 1 255", "record"], "ok 1369 6657 0:0:0:1 0:6823:0:0 .."),
+        (&["make_record 0 0,6824", "resize 1 255"], "err 28"),
+        // Shares are added up as whole numbers; its own plays no part, however large.
+        (&["make_record 0 0,4294967295,1"], "ok 1370 6656 0:0:0:0 0:4294967295:0:0 0:1:0:0 .."),
+        (&["rewrite"], "err 28"),
+        (&["make_record 0 4294967295", "rewrite"], "ok"),
+        // A team that has taken more than its share wants nothing kept, and gives nothing to the others.
+        (&["team 0", THIRD, "resize 1 257"], "ok"),
+        (&[THIRD, "resize 1 257", "team 1", "resize 1 6912"], "err 28"),
+        (
+            &["resize 1 257", "resize 1 6911", "record"],
+            "ok 8026 166 4294967295:0:1:1 4294967295:0:6655:2 4294967295:167:0:0 ..",
+        ),
+        (&["team 0", THIRD, "resize 1 257", "team 2", "resize 1 6912"], "ok"),
+        (&["drop_record", "team 0"], "ok"),
+    ]);
+}
+
+/// Opening, the team, the edit's own numbers, 26 and the table's 21; 27, 28, 25.
+#[test]
+fn teams_in_their_order() {
+    let long = |len: usize| format!("mkdirs 0 {}", "2f".repeat(len));
+    let (longest, too_long) = (long(1024), long(1025));
+    // Due to every edit: its taken bytes are above its limit, nothing is free for the others, and the count is full.
+    const ALL: &str = "set_record 5 6 0:0:1:4294967295 0:4294967295:0:0";
+    const TIGHT: &str = "patch 0x450 0000045a";
+    hold(&[
+        // Teams go up to 15, and none above it is taken.
+        (&[OPEN, "team 15", "resize 1 257"], "err 27"),
+        (&["resize 1 255"], "ok"),
+        (&["team 16", "resize 1 255"], "err 15"),
+        (&["team 17", "rewrite"], "err 15"),
+        (&["team 0x100", "rewrite"], "err 15"),
+        (&["team 4294967295", "resize 1 256"], "err 15"),
+        (&["insert_file 0 62"], "err 15"),
+        (&["insert_dir 0 62"], "err 15"),
+        (&["mkdirs 0 62"], "err 15"),
+        (&["move 1 0x600"], "err 15"),
+        (&["replace 1 aa"], "err 15"),
+        (&["replace_zeros 1 4294967296"], "err 15"),
+        // Behind opening, and before all else.
+        (&["size 0x43f", "rewrite"], "err 1"),
+        (&["patch 0x450 00000459", "rewrite"], "err 14"),
+        (&["patch 0x420 00001f1d", "rewrite"], "err 24"),
+        (&["lend 15 0", "rewrite"], "err 9"),
+        (&["lend 16 0", "rewrite"], "err 15"),
+        (&[&too_long], "err 15"),
+        (&["resize 0 0"], "err 15"),
+        (&["insert_file 1 62"], "err 15"),
+        (&["move 1 0x500"], "err 15"),
+        (&["lend 65544 2097152", &too_long], "err 15"),
+        (
+            &["record"],
+            "ok 1369 6657 4294967295:0:0:0 0:0:0:0 0:0:0:0 0:0:0:0 0:0:0:0 0:0:0:0 0:0:0:0 \
+             0:0:0:0 0:0:0:0 0:0:0:0 0:0:0:0 0:0:0:0 0:0:0:0 0:0:0:0 0:0:0:0 0:0:0:1",
+        ),
+        // It stays until another is named; without a record there is none.
+        (&["drop_record", "rewrite"], "ok"),
+        (&["resize 1 257"], "ok"),
+        (&[&too_long], "err 9"),
+        (&["make_record", "rewrite"], "err 15"),
+        (&["set_record 1 2", "rewrite"], "err 15"),
+        (&["team 0", "rewrite"], "ok"),
+        // Before 27, 28 and 25, which are all due.
+        (&[ALL, "rewrite"], "err 27"),
+        (&["resize 2 0"], "err 15"),
+        (&["resize 0 0"], "err 16"),
+        (&["insert_file 1 62"], "err 17"),
+        (&["mkdirs 0 2e2e"], "err 18"),
+        (&["insert_dir 0 61"], "err 19"),
+        (&["insert_file 0 3a"], "err 13"),
+        (&["insert_dir 0 ff"], "err 12"),
+        (&["move 1 0x500"], "err 20"),
+        (&["move 1 0x400"], "err 21"),
+        (&["resize 1 0x1b01"], "err 21"),
+        (&["replace_zeros 1 4294967296"], "err 21"),
+        (&[&too_long], "err 9"),
+        (&[&longest], "err 27"),
+        (&["lend 16 0x19", "rewrite"], "err 9"),
+        (&["lend 16 0", "resize 1 256"], "err 27"),
+        (&["lend 65544 2097152", SHORT, "rewrite"], "err 26"),
+        (&[SHORT, "resize 1 256"], "err 27"),
+        (&[TIGHT, "insert_file 0 62"], "err 21"),
+        (&[TIGHT, EXACT, "insert_file 0 62"], "err 26"),
+        (&["record"], "ok 5 6 0:0:1:4294967295 0:4294967295:0:0 .."),
+        // Then each of the three, as the one before it is not due.
+        (&["set_record 5 6 1:0:1:4294967295 0:4294967295:0:0", "rewrite"], "err 28"),
+        (&["resize 1 256"], "err 28"),
+        (&["resize 1 257"], "err 27"),
+        (&["set_record 5 6 1:0:1:4294967295 0:6822:0:0", "rewrite"], "err 25"),
+        (&["resize 1 256"], "err 25"),
+        (&["resize 1 257"], "err 27"),
+        (&["set_record 5 6 1:0:1:4294967294 0:6822:0:0", "rewrite"], "ok"),
+        (&["record"], "ok 5 6656 1:0:1:4294967295 0:6822:0:0 .."),
+        // The count is the team's own.
+        (&["set_record 5 6 0:0:0:4294967294 0:0:0:4294967295", "rewrite"], "ok"),
+        (&["team 1", "rewrite"], "err 25"),
+        (&["set_record 0 6 0:0:0:4294967295 9:0:9:0", "resize 1 255"], "err 25"),
+        (&["rewrite", "record"], "ok 0 6656 0:0:0:4294967295 9:0:9:1 .."),
+        (&["drop_record", "team 0"], "ok"),
     ]);
 }
 
@@ -896,15 +1147,15 @@ fn twenty_six_in_its_order() {
         (&[one, two, three, "patch 0x42c 00000028", "move 2 0x466"], "err 21"),
         (&[one, two, three, "patch 0x42c 00000028", "move 2 0x468"], "ok"),
         // 25, and the record as it was.
-        (&[SHORT, "set_record 0 0 4294967295", "rewrite"], "err 26"),
-        (&["record"], "ok 0 0 4294967295"),
+        (&[SHORT, "set_record 0 0 4294967295:0:0:4294967295", "rewrite"], "err 26"),
+        (&["record"], "ok 0 0 4294967295:0:0:4294967295 .."),
         (&[SHORT, "insert_dir 0 62"], "err 26"),
         (&[SHORT, "resize 1 255"], "err 26"),
         (&[SHORT, "resize 1 256"], "err 25"),
         (&[EXACT, "rewrite"], "err 25"),
-        (&["set_record 7 8 9"], "ok 7 8 9"),
+        (&["set_record 7 8 4294967295:0:0:9"], "ok 7 8 4294967295:0:0:9 .."),
         (&[SHORT, "move 1 0x600"], "err 26"),
-        (&["record"], "ok 7 8 9"),
+        (&["record"], "ok 7 8 4294967295:0:0:9 .."),
         (&["drop_record"], "ok"),
     ]);
 }
@@ -928,10 +1179,21 @@ fn never_dirty() {
                 _ => format!("lend_list {}", random(16)),
             });
             commands.extend(match random(24) {
-                0 => Some("make_record".into()),
+                0 => Some(format!("make_record {} 0,{}", random(600), random(8000))),
                 1 => Some("drop_record".into()),
-                2 => Some(format!("set_record {} 0 {}", random(300), u32::MAX - 1)),
-                3 => Some(format!("set_record {} 0 {}", u32::MAX - random(300) as u32, random(9))),
+                2 => Some(format!("set_record {} 0 9999:0:0:{}", random(300), u32::MAX - 1)),
+                3 => Some(format!(
+                    "set_record {} 0 {}:{}:{}:3 {}:{}:{}:4",
+                    u32::MAX - random(300) as u32,
+                    random(1000),
+                    random(9000),
+                    random(900),
+                    random(1000),
+                    random(9000),
+                    random(900)
+                )),
+                4 => Some(format!("team {}", random(3))),
+                5 => Some(format!("team {}", 14 + random(4))),
                 _ => None,
             });
             commands.push(match random(19) {
@@ -996,9 +1258,15 @@ fn new_masters() {
         (&["lend 15 26", "master 0x2000 47434c45 0 6100"], "err 9"),
         (&["lend 16 25", "master 0x2000 47434c45 0 6100"], "err 9"),
         (&["lend 16 26", "lend_list 0", "master 0x2000 47434c45 0 6100"], "ok"),
-        (&["set_record 5 6 7", "master 0x2000 47434c45 0 6100", "record"], "ok 5 6 7"),
-        (&["set_record 5 6 7", "master 0x2000 47434c45 1 6100", "record"], "ok 5 6 7"),
-        (&["make_record", "master 0x2000 47434c45 0 6100", "record"], "ok 1370 6656 0"),
-        (&["master 0x2000 47434c45 0 6100", "make_record"], "ok 1114 7078 0"),
+        (
+            &["set_record 5 6 4294967295:0:0:7", "master 0x2000 47434c45 0 6100", "record"],
+            "ok 5 6 4294967295:0:0:7 ..",
+        ),
+        (
+            &["set_record 5 6 4294967295:0:0:7", "master 0x2000 47434c45 1 6100", "record"],
+            "ok 5 6 4294967295:0:0:7 ..",
+        ),
+        (&[OPEN, "master 0x2000 47434c45 0 6100", "record"], "ok 1370 6656 4294967295:0:0:0 .."),
+        (&["master 0x2000 47434c45 0 6100", OPEN], "ok 1114 7078 4294967295:0:0:0 .."),
     ]);
 }

@@ -3,7 +3,7 @@
 use crate::script::Part;
 use crate::zeros::Zeros;
 use counter_sys::guarded::{Element, Guarded};
-use counter_sys::{DOL_WORDS, HEADER_SIZE, RECORD_WORDS, call};
+use counter_sys::{DOL_WORDS, HEADER_SIZE, RECORD_WORDS, Record, TEAM_WORDS, TEAMS, call};
 
 /// What a call gave, in the form of a script's answer: its number, the words of the answer, and a text.
 #[derive(Debug, Default, PartialEq, Eq)]
@@ -19,8 +19,9 @@ pub struct Stage {
     bytes: usize,
     list: usize,
     window: [u64; 3],
-    /// The record that edits take and give back, if one is in use.
-    record: Option<[u32; RECORD_WORDS]>,
+    /// The record that edits take and give back, if one is in use, and the team that they carry then.
+    record: Option<Record>,
+    team: u32,
 }
 
 /// What one call is lent; none of it is zero before.
@@ -102,8 +103,16 @@ fn listed(
 
 impl Stage {
     pub fn new() -> Stage {
-        let window = [0; 3];
-        Stage { image: vec![], kept: vec![], words: 0, bytes: 0, list: 0, window, record: None }
+        Stage {
+            image: vec![],
+            kept: vec![],
+            words: 0,
+            bytes: 0,
+            list: 0,
+            window: [0; 3],
+            record: None,
+            team: 0,
+        }
     }
 
     pub fn image(&self) -> &[u8] {
@@ -132,9 +141,13 @@ impl Stage {
             "window" => self.window = [at(0)? as u64, at(1)? as u64, at(2)? as u64],
             "record" if numbers.is_empty() => self.record = None,
             "record" => {
-                holds(numbers.len() <= RECORD_WORDS, "a number too many")?;
-                let word = |i| u32::try_from(at(i)?).map_err(|_| "a number above 32 bits");
-                self.record = Some([word(0)?, word(1)?, word(2)?]);
+                let teams = numbers.len().checked_sub(2).ok_or("a number is missing")?;
+                holds(teams.is_multiple_of(TEAM_WORDS), "a team has four numbers")?;
+                self.record = Some(Record::of(filled(&numbers)?));
+            }
+            "team" => {
+                holds(numbers.len() == 1, "a number too many or too few")?;
+                self.team = word(numbers[0])?;
             }
             _ => return Ok(false),
         }
@@ -151,8 +164,10 @@ impl Stage {
     /// Carries out a call of the C face.
     pub fn call(&mut self, line: &Part) -> Result<Given, String> {
         let name = line.words[0].as_str();
-        let numbers = line.numbers(1)?;
+        // make_record's are lists.
+        let numbers = if name == "make_record" { vec![] } else { line.numbers(1)? };
         let right = match name {
+            "make_record" => line.words.len() <= 3,
             "fill_file" => [1, 3].contains(&numbers.len()),
             // The sizes of the files stand behind its two.
             "master" => numbers.len() >= 2,
@@ -166,11 +181,12 @@ impl Stage {
             }
             "insert_file" | "insert_directory" | "make_directories" | "move_file"
             | "resize_file" | "rewrite" => {
-                self.edit(name, words(&numbers)?, &line.text, &mut lent)?
+                self.edit(name, filled(&numbers)?, &line.text, &mut lent)?
             }
+            "make_record" => self.make_record(line, &mut lent)?,
             "fill_file" | "fill_zeros" => self.fill_file(name, &numbers, &line.text, &mut lent)?,
             "master" => self.master(&numbers, &line.text, &mut lent)?,
-            _ => self.look(name, words(&numbers)?, &line.text, &mut lent)?,
+            _ => self.look(name, filled(&numbers)?, &line.text, &mut lent)?,
         };
         holds(lent.margins_stay(), "something beside what was lent was written")?;
         Ok(given)
@@ -184,14 +200,18 @@ impl Stage {
         l: &mut Lent,
     ) -> Result<Given, String> {
         let fresh = fresh_record(&self.image, self.words)?;
-        let taken = self.record.or(fresh.ok()).unwrap_or([u32::MARK; RECORD_WORDS]);
-        let mut record = Guarded::of(&taken);
+        let marked = Record::of([u32::MARK; RECORD_WORDS]);
+        let taken = self.record.or(fresh.ok()).unwrap_or(marked);
+        let team = if self.record.is_some() { self.team } else { 0 };
+        let mut record = Guarded::of(&taken.slots());
         let (image, words, bytes) = (l.image.slice_mut(), l.words.slice_mut(), l.bytes.slice_mut());
-        // A call lent all three, with the record and what else it takes.
+        // A call lent all three, with the record, the team and what else it takes.
         macro_rules! change {
             ($name:ident($($given:tt)*)) => {
                 slots::<u32, 0>(|_| unsafe {
-                    call!($name(mut image, mut words, mut bytes, = record.slots() $($given)*))
+                    call!($name(
+                        mut image, mut words, mut bytes, = record.slots(), = team $($given)*
+                    ))
                 })?
             };
         }
@@ -199,7 +219,7 @@ impl Stage {
             ($name:ident) => {
                 slots::<u32, 1>(|s| unsafe {
                     call!($name(
-                        mut image, mut words, mut bytes, = record.slots(), = a, in text, = s
+                        mut image, mut words, mut bytes, = record.slots(), = team, = a, in text, = s
                     ))
                 })?
             };
@@ -217,7 +237,7 @@ impl Stage {
         holds(numbers[0] == 0 || l.image.slice() == self.image, "a refusal changed the image")?;
         self.image.copy_from_slice(l.image.slice());
         holds(record.margins_stay(), "something beside the record was written")?;
-        let given: [u32; RECORD_WORDS] = *record.slots();
+        let given = Record::of(*record.slots());
         holds(numbers[0] == 0 || given == taken, "a refusal changed the record")?;
         holds(
             fresh.is_ok() || fresh == Err(numbers[0] as u32),
@@ -225,14 +245,37 @@ impl Stage {
         )?;
         numbers.insert(1, checksum(&self.image));
         if self.record.is_some() {
-            numbers.extend(given.map(u64::from));
+            numbers.extend(told(given));
             self.record = Some(given);
         } else if numbers[0] == 0 {
-            let [used, largest, _] = fresh_record(&self.image, self.words)?
+            let mut wanted = fresh_record(&self.image, self.words)?
                 .map_err(|number| format!("the image is refused afterwards: {number}"))?;
-            holds(given == [used, largest, 1], "the record is not the new image's")?;
+            wanted.teams[0].taken = wanted.used.saturating_sub(taken.used);
+            wanted.teams[0].edits = 1;
+            holds(given == wanted, "the record is not the new image's")?;
         }
         Ok(Given { numbers, text: vec![] })
+    }
+
+    /// Limits and shares of the teams, team 0 first; 0 for those that are not named.
+    fn make_record(&mut self, line: &Part, l: &mut Lent) -> Result<Given, String> {
+        let lists: [[u32; TEAMS]; 2] = [filled(&line.list(1)?)?, filled(&line.list(2)?)?];
+        let [mut limits, mut shares] = lists.map(|list| Guarded::of(&list));
+        let (most, kept) = (limits.slots(), shares.slots());
+        let (image, words) = (l.image.slice(), l.words.slice_mut());
+        let mut given = slots::<u32, RECORD_WORDS>(|s| unsafe {
+            call!(counter_make_record(in image, mut words, = most, = kept, = s))
+        })?;
+        holds(l.words.is_zero(), "working memory is not zero")?;
+        holds(l.image.slice() == self.image, "a call that reads changed the image")?;
+        holds([limits.slice(), shares.slice()] == lists, "limits or shares were written to")?;
+        if given[0] == 0 {
+            let record = Record::of(filled(&given[1..])?);
+            given.truncate(1);
+            given.extend(told(record));
+            self.record = Some(record);
+        }
+        Ok(Given { numbers: given, text: vec![] })
     }
 
     /// The clip is the text, or as many bytes as `turned` makes of it, or zeros, which nobody can write to.
@@ -243,7 +286,7 @@ impl Stage {
         text: &[u8],
         l: &mut Lent,
     ) -> Result<Given, String> {
-        let target = words(&numbers[..1])?;
+        let target = filled(&numbers[..1])?;
         if name == "fill_zeros" {
             let zeros =
                 Zeros::new(numbers[1] as usize).ok_or("so many zeros cannot be reserved")?;
@@ -304,7 +347,6 @@ impl Stage {
         let mut given = match name {
             "open" => ask!(u32, 5, counter_open()),
             "totals" => ask!(u32, 2, counter_totals()),
-            "make_record" => ask!(u32, RECORD_WORDS, counter_make_record()),
             "program" => ask!(u32, 2, counter_program()),
             "entry" => ask!(u32, 4, counter_entry(, = a)),
             "lookup" => ask!(u32, 4, counter_lookup(, = a, in text)),
@@ -336,9 +378,6 @@ impl Stage {
             "free_clusters" => listed(&mut given, &l.list, 3, 1)?,
             "open_file" | "open_dol" if given[0] == 0 => {
                 self.window = [given[1], given[2], given[3]]
-            }
-            "make_record" if given[0] == 0 => {
-                self.record = Some([given[1], given[2], given[3]].map(|number| number as u32))
             }
             _ => {}
         }
@@ -393,31 +432,42 @@ fn header(image: &[u8]) -> Result<Given, String> {
     Ok(Given { numbers, text: vec![] })
 }
 
-/// A record of an image, with so many words lent; or the number of its refusal.
-fn fresh_record(image: &[u8], words: usize) -> Result<Result<[u32; RECORD_WORDS], u32>, String> {
+/// A record of an image whose teams may take anything, with so many words lent; or the number of its refusal.
+fn fresh_record(image: &[u8], words: usize) -> Result<Result<Record, u32>, String> {
     let mut words = vec![0; words];
+    let (limits, shares) = ([u32::MAX; TEAMS], [0; TEAMS]);
     let made = slots::<u32, RECORD_WORDS>(|s| unsafe {
-        call!(counter_make_record(in image, mut words, = s))
+        call!(counter_make_record(in image, mut words, = &limits, = &shares, = s))
     })?;
-    Ok(match made[..] {
-        [0, used, largest, edits] => Ok([used, largest, edits].map(|number| number as u32)),
-        _ => Err(made[0] as u32),
+    Ok(match made[0] {
+        0 => Ok(Record::of(filled(&made[1..])?)),
+        number => Err(number as u32),
     })
+}
+
+/// A record as an answer: the teams behind the last one that is not all 0 are left out.
+fn told(record: Record) -> Vec<u64> {
+    let mut numbers = record.slots().map(u64::from).to_vec();
+    while numbers.len() > 2 && numbers.ends_with(&[0; TEAM_WORDS]) {
+        numbers.truncate(numbers.len() - TEAM_WORDS);
+    }
+    numbers
 }
 
 /// How many numbers a call takes.
 fn arity(name: &str) -> usize {
     match name {
-        "open" | "totals" | "make_record" | "program" | "entries" | "free_regions"
-        | "free_clusters" | "open_dol" | "header" | "rewrite" => 0,
+        "open" | "totals" | "program" | "entries" | "free_regions" | "free_clusters"
+        | "open_dol" | "header" | "rewrite" => 0,
         "max_region_size" | "allocate" | "move_file" | "resize_file" | "fill_zeros" => 2,
         _ => 1,
     }
 }
 
-/// The numbers, each of 32 bits; 0 where a call takes fewer.
-fn words(numbers: &[u64]) -> Result<[u32; 2], String> {
-    let mut words = [0; 2];
+/// The numbers, each of 32 bits, and 0 behind them.
+fn filled<const N: usize>(numbers: &[u64]) -> Result<[u32; N], String> {
+    holds(numbers.len() <= N, "a number too many")?;
+    let mut words = [0; N];
     for (place, number) in words.iter_mut().zip(numbers) {
         *place = word(*number)?;
     }

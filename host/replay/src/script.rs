@@ -8,9 +8,17 @@ pub struct Part {
 }
 
 impl Part {
-    /// The words from `from` on, as numbers.
+    /// The words from `from` on, as numbers; a team's four are one word.
     pub fn numbers(&self, from: usize) -> Result<Vec<u64>, String> {
-        self.words.iter().skip(from).map(|word| number(word)).collect()
+        self.words.iter().skip(from).flat_map(|word| word.split(':')).map(number).collect()
+    }
+
+    /// The word `at` as numbers parted by commas; none for `-`, or where it is not there.
+    pub fn list(&self, at: usize) -> Result<Vec<u64>, String> {
+        match self.words.get(at).map_or("-", String::as_str) {
+            "-" => Ok(vec![]),
+            word => word.split(',').map(number).collect(),
+        }
     }
 }
 
@@ -128,5 +136,21 @@ mod tests {
         assert_eq!(lines("save\npatch 0 :0").unwrap_err(), "line 2: `:0` are no bytes in base 16");
         assert_eq!(lines("list 1 = 0 \"").unwrap_err(), "line 1: a text that does not end");
         assert!(part(&["x", "0xg"], b"").numbers(1).is_err());
+        assert!(part(&["x", "1:2:"], b"").numbers(1).is_err());
+        assert!(part(&["x", "1,"], b"").list(1).is_err());
+    }
+
+    #[test]
+    fn numbers_of_teams() {
+        let line = part(&["x", "5", "1:2:0x10:4", "7,0x8", "-"], b"");
+        assert_eq!(line.numbers(4), Err("`-` is no number".into()));
+        assert_eq!(
+            part(&line.words[..3].iter().map(String::as_str).collect::<Vec<_>>(), b"")
+                .numbers(1)
+                .unwrap(),
+            [5, 1, 2, 16, 4]
+        );
+        let lists = [3, 4, 5].map(|at| line.list(at).unwrap());
+        assert_eq!(lists, [vec![7, 8], vec![], vec![]]);
     }
 }

@@ -15,16 +15,25 @@ fn every_call_of_every_script() {
         assert!(outcome.differ.is_empty(), "{}", outcome.differ.join("\n"));
         calls += outcome.calls;
     }
-    assert_eq!(calls, 8641, "all of them, so that none is lost");
+    assert_eq!(calls, 9282, "all of them, so that none is lost");
 }
 
-/// The answers to new masters are those that masters.py puts together.
+/// A script that a program of this folder puts together is as it does.
+fn put_together(program: &str, script: &str) {
+    let folder = Path::new(env!("CARGO_MANIFEST_DIR"));
+    let made = Command::new("python3").arg(folder.join(program)).output().unwrap();
+    assert!(made.status.success(), "{}", String::from_utf8_lossy(&made.stderr));
+    assert!(made.stdout == fs::read(folder.join("scripts").join(script)).unwrap());
+}
+
 #[test]
 fn new_masters_are_put_together() {
-    let folder = Path::new(env!("CARGO_MANIFEST_DIR"));
-    let made = Command::new("python3").arg(folder.join("masters.py")).output().unwrap();
-    assert!(made.status.success(), "{}", String::from_utf8_lossy(&made.stderr));
-    assert!(made.stdout == fs::read(folder.join("scripts/master.txt")).unwrap());
+    put_together("masters.py", "master.txt");
+}
+
+#[test]
+fn records_of_teams_are_put_together() {
+    put_together("teams.py", "teams.txt");
 }
 
 const MASTER: &str =
@@ -54,19 +63,28 @@ fn right_answers_of_the_small_master() {
         "fill_zeros 1 0x100000000 = 21 0x203a64a4776abcd2",
         // Records: none in use, made, set, refused, set aside.
         "rewrite = 0 0x203a64a4776abcd2",
-        "make_record = 0 1370 6656 0\nrewrite = 0 0x203a64a4776abcd2 1370 6656 1",
-        "record 5 6 7\nrewrite = 0 0x203a64a4776abcd2 5 6656 8",
-        "record 5 6 0xffffffff\nrewrite = 25 0x203a64a4776abcd2 5 6 0xffffffff",
-        "record 5 6 7\nmove_file 1 0x500 = 20 0x203a64a4776abcd2 5 6 7",
-        "record 5 6 7\nsize 4\nmake_record = 1\nrewrite = 1 0x4d25767f9dce13f5 5 6 7",
-        "record 5 6 7\nrecord\nrewrite = 0 0x203a64a4776abcd2",
+        "make_record = 0 1370 6656\nrewrite = 0 0x203a64a4776abcd2 1370 6656 0:0:0:1",
+        "make_record 7,0,8 5 = 0 1370 6656 7:5:0:0 0:0:0:0 8:0:0:0",
+        "make_record - 0,5 = 0 1370 6656 0:0:0:0 0:5:0:0",
+        "record 5 6\nrewrite = 0 0x203a64a4776abcd2 5 6656 0:0:0:1",
+        "record 5 6 4:3:2:7\nrewrite = 0 0x203a64a4776abcd2 5 6656 4:3:2:8",
+        "record 5 6 0:0:0:0xffffffff\nrewrite = 25 0x203a64a4776abcd2 5 6 0:0:0:0xffffffff",
+        "record 5 6 4:3:2:7\nmove_file 1 0x500 = 20 0x203a64a4776abcd2 5 6 4:3:2:7",
+        "record 5 6 4:3:2:7\nsize 4\nmake_record 1 2 = 1\nrewrite = 1 0x4d25767f9dce13f5 5 6 4:3:2:7",
+        "record 5 6\nrecord\nrewrite = 0 0x203a64a4776abcd2",
+        // Teams: another one's, one that there is not, and none without a record.
+        "team 1\nrecord 5 6 0:0:9:9 1:0:1:0\nrewrite = 0 0x203a64a4776abcd2 5 6656 0:0:9:9 1:0:1:1",
+        "team 15\nrecord 5 6 0:6823:0:0\nrewrite = 28 0x203a64a4776abcd2 5 6 0:6823:0:0",
+        "record 5 6 8:0:9:0\nrewrite = 27 0x203a64a4776abcd2 5 6 8:0:9:0",
+        "team 16\nrecord 5 6\nrewrite = 15 0x203a64a4776abcd2 5 6",
+        "team 16\nrewrite = 0 0x203a64a4776abcd2",
         // The table maximum: just met, missed by a byte, and by an insert.
         "patch 0x42c :0000001a\nrewrite = 0 0x5b12f8ccc73eb054",
         "patch 0x42c :00000019\nrewrite = 26 0x7b45e1b0436abd75",
         "patch 0x42c :0000001a\ninsert_file 0 \"b\" = 26 0x5b12f8ccc73eb054",
         // A new master, refused, and with no files.
         "master 0x44b 0 = 21 0x203a64a4776abcd2",
-        "record 5 6 7\nmaster 0x2000 0 1 \"a\" = 8 0x203a64a4776abcd2",
+        "record 5 6\nmaster 0x2000 0 1 \"a\" = 8 0x203a64a4776abcd2",
         "master 0x44c 0x47434c45 = 0 0xd5219a723b1c27a8",
         "list 0x46 = 0 0x46 \"total 8192 used 1370\nd 0 0 2 /\nf 1 1280 256 /a\nr 1114 166\nr 1536 6656\n\"",
     ] {
@@ -99,8 +117,8 @@ fn a_wrong_answer_is_told() {
             "s:7: fill_zeros 1 0x100: gave 0x0 0x203a64a4776abcd2, has to give 0x0 0x1",
         ),
         (
-            "record 5 6 7\nrewrite = 0 0x203a64a4776abcd2 5 6 8",
-            "s:8: rewrite: gave 0x0 0x203a64a4776abcd2 0x5 0x1a00 0x8, has to give 0x0 0x203a64a4776abcd2 0x5 0x6 0x8",
+            "record 5 6\nrewrite = 0 0x203a64a4776abcd2 5 6 0:0:0:1",
+            "s:8: rewrite: gave 0x0 0x203a64a4776abcd2 0x5 0x1a00 0x0 0x0 0x0 0x1, has to give 0x0 0x203a64a4776abcd2 0x5 0x6 0x0 0x0 0x0 0x1",
         ),
         ("master 0x2000 = 0", "s:7: master 0x2000: a number too many or too few"),
         (
@@ -111,7 +129,12 @@ fn a_wrong_answer_is_told() {
             "master 0x44b 0 = 0",
             "s:7: master 0x44b 0: gave 0x15 0x203a64a4776abcd2, has to give 0x0",
         ),
-        ("make_record 1 = 0", "s:7: make_record 1: a number too many or too few"),
+        ("make_record 1 2 3 = 0", "s:7: make_record 1 2 3: a number too many or too few"),
+        ("make_record 1, = 0", "s:7: make_record 1,: `` is no number"),
+        (
+            "make_record - 0,1,2,3,4,5,6,7,8,9,10,11,12,13,14,15,16 = 0",
+            "s:7: make_record - 0,1,2,3,4,5,6,7,8,9,10,11,12,13,14,15,16: a number too many",
+        ),
         ("rewrite = 0 1", "s:7: rewrite: gave 0x0 0x203a64a4776abcd2, has to give 0x0 0x1"),
         ("read 2 = 0 0 0 \"\"", "s:7: read 2: gave 0x0 0x0 0x0 \"..\", has to give 0x0 0x0 0x0"),
         ("fly 1 = 0", "s:7: fly 1: `fly` is no call"),
@@ -129,15 +152,19 @@ fn a_script_that_cannot_be_read_is_told() {
     assert_eq!(replay("s", "size 4\nfill 0 4\n").unwrap_err(), "s:2: fill 0 4: a text is missing");
     assert_eq!(replay("s", "turn 4\n").unwrap_err(), "s:1: turn 4: no such line");
     assert_eq!(replay("s", "lend 1 2\n").unwrap_err(), "s:1: lend 1 2: a number is missing");
-    assert_eq!(replay("s", "record 1 2\n").unwrap_err(), "s:1: record 1 2: a number is missing");
-    for line in ["record 1 2 3 4", "record 1 2 3 0x100000000", "record 1 2 3 4 5 6"] {
-        assert_eq!(
-            replay("s", &format!("{line}\n")).unwrap_err(),
-            format!("s:1: {line}: a number too many")
-        );
+    let seventeen = format!("record 1 2{}", " 1:2:3:4".repeat(17));
+    for (line, why) in [
+        ("record 1", "a number is missing"),
+        ("record 1 2 3", "a team has four numbers"),
+        ("record 1 2 3:4:5:6:7", "a team has four numbers"),
+        (&seventeen, "a number too many"),
+        ("record 1 0x100000000", "4294967296 has more than 32 bits"),
+        ("record 1 2 3:4:5:0x100000000", "4294967296 has more than 32 bits"),
+        ("team", "a number too many or too few"),
+        ("team 1 2", "a number too many or too few"),
+        ("team 0x100000000", "4294967296 has more than 32 bits"),
+    ] {
+        let told = format!("s:1: {line}: {why}");
+        assert_eq!(replay("s", &format!("{line}\n")).unwrap_err(), told);
     }
-    assert_eq!(
-        replay("s", "record 1 2 0x100000000\n").unwrap_err(),
-        "s:1: record 1 2 0x100000000: a number above 32 bits"
-    );
 }

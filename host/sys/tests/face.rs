@@ -1,7 +1,8 @@
 //! What the probe's language does not reach: windows that no call gives; each call on slices; the
 //! program's region; an image with nothing in it.
 
-use counter_sys::{Entry, Memory, Opened, Record, Region, Window};
+use counter_sys::{Entry, Memory, Opened, Record, Region, TEAMS, Team, Window};
+use std::array;
 
 /// The small master.
 fn small_master() -> Vec<u8> {
@@ -16,6 +17,18 @@ fn small_master() -> Vec<u8> {
 
 fn put(image: &mut [u8], at: usize, bytes: &[u8]) {
     image[at..at + bytes.len()].copy_from_slice(bytes);
+}
+
+/// The team that edits carry where nothing else is said.
+const TEAM: u32 = 5;
+
+/// A record with these numbers, the last two of that team, which may take anything. Each other one has numbers of its own, has
+/// taken its share, and cannot make an edit more.
+fn record(used: u32, largest: u32, taken: u32, edits: u32) -> Record {
+    let other = |k: u32| Team { limit: k, share: 100 + k, taken: 200 + k, edits: u32::MAX };
+    let mut teams = array::from_fn(|k| other(k as u32));
+    teams[TEAM as usize] = Team { limit: u32::MAX, share: 300, taken, edits };
+    Record { used, largest, teams }
 }
 
 /// Its listing.
@@ -92,24 +105,34 @@ fn the_calls_on_slices() {
     assert_eq!(counter_sys::open_file(&image, &mut memory, 1), Ok(window));
     let (header, window) = counter_sys::open_dol(&image, &mut memory).unwrap();
     assert_eq!((header[7], window.start), (0xc233_9f3d, 0));
-    let mut record = counter_sys::make_record(&image, &mut memory).unwrap();
-    assert_eq!(record, Record { used: 1370, largest: 0x1a00, edits: 0 });
+    let limits = array::from_fn(|k| 1000 + k as u32);
+    let shares = array::from_fn(|k| 100 + k as u32);
+    let made = counter_sys::make_record(&image, &mut memory, &limits, &shares).unwrap();
+    let new = |k: usize| Team { limit: limits[k], share: shares[k], taken: 0, edits: 0 };
+    assert_eq!(made, Record { used: 1370, largest: 0x1a00, teams: array::from_fn(new) });
+    let after = |used, largest, taken, edits| {
+        let mut record = made;
+        (record.used, record.largest) = (used, largest);
+        record.teams[TEAM as usize] = Team { taken, edits, ..new(TEAM as usize) };
+        record
+    };
+    let mut record = made;
     let (m, r) = (&mut memory, &mut record);
-    assert_eq!(counter_sys::insert_file(&mut image, m, r, 0, b"b"), Ok(2));
-    assert_eq!(counter_sys::insert_directory(&mut image, m, r, 0, b"c"), Ok(3));
-    assert_eq!(counter_sys::make_directories(&mut image, m, r, 3, b"d"), Ok(4));
-    assert_eq!(*r, Record { used: 1370 + 42, largest: 0x1a00, edits: 3 });
-    assert_eq!(counter_sys::move_file(&mut image, m, r, 1, 0x600), Ok(()));
-    assert_eq!(*r, Record { used: 1370 + 42, largest: 0x1900, edits: 4 });
-    assert_eq!(counter_sys::resize_file(&mut image, m, r, 1, 0x10), Ok(()));
-    assert_eq!(*r, Record { used: 1370 + 42 - 0xf0, largest: 0x19f0, edits: 5 });
-    assert_eq!(counter_sys::fill_file(&mut image, m, r, 1, b"the clip"), Ok(()));
+    assert_eq!(counter_sys::insert_file(&mut image, m, r, TEAM, 0, b"b"), Ok(2));
+    assert_eq!(counter_sys::insert_directory(&mut image, m, r, TEAM, 0, b"c"), Ok(3));
+    assert_eq!(counter_sys::make_directories(&mut image, m, r, TEAM, 3, b"d"), Ok(4));
+    assert_eq!(*r, after(1370 + 42, 0x1a00, 42, 3));
+    assert_eq!(counter_sys::move_file(&mut image, m, r, TEAM, 1, 0x600), Ok(()));
+    assert_eq!(*r, after(1370 + 42, 0x1900, 42, 4));
+    assert_eq!(counter_sys::resize_file(&mut image, m, r, TEAM, 1, 0x10), Ok(()));
+    assert_eq!(*r, after(1370 + 42 - 0xf0, 0x19f0, 0, 5));
+    assert_eq!(counter_sys::fill_file(&mut image, m, r, TEAM, 1, b"the clip"), Ok(()));
     assert_eq!(&image[0x600..0x610], b"the clip\0\0\0\0\0\0\0\0");
-    assert_eq!(*r, Record { used: 1370 + 42 - 0xf8, largest: 0x19f8, edits: 6 });
-    assert_eq!(counter_sys::rewrite(&mut image, m, r), Ok(()));
-    assert_eq!(*r, Record { used: 1370 + 42 - 0xf8, largest: 0x19f8, edits: 7 });
-    assert_eq!(counter_sys::insert_file(&mut image, m, r, 0, b"e"), Err(9));
-    assert_eq!(*r, Record { used: 1370 + 42 - 0xf8, largest: 0x19f8, edits: 7 });
+    assert_eq!(*r, after(1370 + 42 - 0xf8, 0x19f8, 0, 6));
+    assert_eq!(counter_sys::rewrite(&mut image, m, r, TEAM), Ok(()));
+    assert_eq!(*r, after(1370 + 42 - 0xf8, 0x19f8, 0, 7));
+    assert_eq!(counter_sys::insert_file(&mut image, m, r, TEAM, 0, b"e"), Err(9));
+    assert_eq!(*r, after(1370 + 42 - 0xf8, 0x19f8, 0, 7));
     assert!(words == [0; 28] && bytes == [0; 68]);
 }
 
@@ -151,40 +174,53 @@ fn no_name_and_no_argument_is_taken_for_another() {
     assert_eq!(counter_sys::allocate(&image, m, 0x400, 3), Err(22));
     // Number and offset, number and size: 1 is a number, and no place that is free.
     let edited = |edit: &mut dyn FnMut(&mut [u8], &mut Record) -> Result<(), u32>| {
-        let (mut edited, mut record) = (image.clone(), Record { used: 1370, largest: 0, edits: 0 });
-        edit(&mut edited, &mut record).map(|()| edited)
+        let (mut edited, given) = (image.clone(), record(1370, 0, 0, 7));
+        let mut back = given;
+        let answer = edit(&mut edited, &mut back);
+        assert_eq!(back.teams[TEAM as usize].edits, 7 + u32::from(answer.is_ok()));
+        assert_eq!(back == given, answer.is_err());
+        answer.map(|()| edited)
     };
     let word = |edited: &[u8], at: usize| edited[at..at + 4].to_vec();
-    let moved = edited(&mut |image, record| counter_sys::move_file(image, m, record, 1, 0x800));
+    let moved =
+        edited(&mut |image, record| counter_sys::move_file(image, m, record, TEAM, 1, 0x800));
     assert_eq!(word(&moved.unwrap(), 0x450), [0, 0, 8, 0]);
-    let moved = edited(&mut |image, record| counter_sys::move_file(image, m, record, 0x800, 1));
+    let moved =
+        edited(&mut |image, record| counter_sys::move_file(image, m, record, TEAM, 0x800, 1));
     assert_eq!(moved, Err(15));
-    let sized = edited(&mut |image, record| counter_sys::resize_file(image, m, record, 1, 0x80));
+    let sized =
+        edited(&mut |image, record| counter_sys::resize_file(image, m, record, TEAM, 1, 0x80));
     assert_eq!(word(&sized.unwrap(), 0x454), [0, 0, 0, 0x80]);
-    let sized = edited(&mut |image, record| counter_sys::resize_file(image, m, record, 0x80, 1));
+    let sized =
+        edited(&mut |image, record| counter_sys::resize_file(image, m, record, TEAM, 0x80, 1));
     assert_eq!(sized, Err(15));
     // A file, a directory, a path.
     let number =
         |given: Result<u32, u32>, wanted: u32| given.map(|found| assert_eq!(found, wanted));
     let file =
-        edited(&mut |image, r| number(counter_sys::insert_file(image, m, r, 0, b"b"), 2)).unwrap();
+        edited(&mut |image, r| number(counter_sys::insert_file(image, m, r, TEAM, 0, b"b"), 2))
+            .unwrap();
     assert_eq!(word(&file, 0x458), [0, 0, 0, 2]);
-    let directory =
-        edited(&mut |image, r| number(counter_sys::insert_directory(image, m, r, 0, b"b"), 2));
+    let directory = edited(&mut |image, r| {
+        number(counter_sys::insert_directory(image, m, r, TEAM, 0, b"b"), 2)
+    });
     assert_eq!(word(&directory.unwrap(), 0x458), [1, 0, 0, 2]);
     let path = b"b/c";
     let refused = [
-        edited(&mut |image, r| number(counter_sys::insert_file(image, m, r, 0, path), 0)),
-        edited(&mut |image, r| number(counter_sys::insert_directory(image, m, r, 0, path), 0)),
+        edited(&mut |image, r| number(counter_sys::insert_file(image, m, r, TEAM, 0, path), 0)),
+        edited(&mut |image, r| {
+            number(counter_sys::insert_directory(image, m, r, TEAM, 0, path), 0)
+        }),
     ];
     assert_eq!(refused, [Err(13), Err(13)]);
-    let path =
-        edited(&mut |image, r| number(counter_sys::make_directories(image, m, r, 0, path), 3));
+    let path = edited(&mut |image, r| {
+        number(counter_sys::make_directories(image, m, r, TEAM, 0, path), 3)
+    });
     let path = path.unwrap();
     assert_eq!((word(&path, 0x458), word(&path, 0x464)), (vec![1, 0, 0, 2], vec![1, 0, 0, 4]));
     // A rewrite, and a clip as long as the file.
-    assert_eq!(edited(&mut |image, r| counter_sys::rewrite(image, m, r)), Ok(image.clone()));
-    let filled = edited(&mut |image, r| counter_sys::fill_file(image, m, r, 1, &[7; 0x100]));
+    assert_eq!(edited(&mut |image, r| counter_sys::rewrite(image, m, r, TEAM)), Ok(image.clone()));
+    let filled = edited(&mut |image, r| counter_sys::fill_file(image, m, r, TEAM, 1, &[7; 0x100]));
     assert_eq!(filled.unwrap()[0x500..0x600], [7; 0x100]);
 }
 
@@ -203,11 +239,11 @@ fn the_table_of_a_rewrite() {
     assert_eq!((&table[36..], words), (&b"a\0a\0\x05"[..], [0; 20]));
     // The last byte of that table would lie in the second file.
     let mut memory = Memory { words: &mut words, bytes: &mut bytes };
-    let mut record = counter_sys::make_record(&image, &mut memory).unwrap();
-    assert_eq!(counter_sys::rewrite(&mut image, &mut memory, &mut record), Err(21));
+    let mut record = record(0, 0, 0, 0);
+    assert_eq!(counter_sys::rewrite(&mut image, &mut memory, &mut record, TEAM), Err(21));
     put(&mut image, 0x45f, &[0x68]);
     counter_sys::table_anew(&image, memory.words, &mut table).unwrap();
-    assert_eq!(counter_sys::rewrite(&mut image, &mut memory, &mut record), Ok(()));
+    assert_eq!(counter_sys::rewrite(&mut image, &mut memory, &mut record, TEAM), Ok(()));
     assert_eq!(image[0x440..0x468], table[..40]);
 }
 
@@ -304,9 +340,9 @@ fn a_file_filled_with_a_clip() {
     let fill = |image: &mut [u8], bytes: usize, number, clip: &[u8]| {
         let (mut words, mut bytes) = ([9; 16], vec![9; bytes]);
         let mut memory = Memory { words: &mut words, bytes: &mut bytes };
-        let mut record = Record { used: 0x8000_0000, largest: 7, edits: 0 };
-        let got = counter_sys::fill_file(image, &mut memory, &mut record, number, clip);
-        assert_eq!(record.edits, u32::from(got.is_ok()));
+        let mut record = record(0x8000_0000, 7, 0, 0);
+        let got = counter_sys::fill_file(image, &mut memory, &mut record, TEAM, number, clip);
+        assert_eq!(record.teams[TEAM as usize].edits, u32::from(got.is_ok()));
         assert!(words == [0; 16] && bytes.iter().all(|&b| b == 0));
         got
     };
@@ -332,7 +368,7 @@ fn a_file_filled_with_a_clip() {
     assert!(image == wanted);
 }
 
-/// Used bytes and the count move from the numbers that went in, whatever the image; the largest region
+/// Used bytes, taken bytes and the count move from the numbers that went in, whatever the image; the largest region
 /// is the new image's. A refusal gives back what went in, and 25 is one.
 #[test]
 fn a_record_that_holds_anything() {
@@ -340,25 +376,133 @@ fn a_record_that_holds_anything() {
     let resize = |used, edits, new_size| {
         let (mut image, mut words, mut bytes) = (small_master(), [9; 16], [9; 26]);
         let mut memory = Memory { words: &mut words, bytes: &mut bytes };
-        let mut record = Record { used, largest: 7, edits };
-        let got = counter_sys::resize_file(&mut image, &mut memory, &mut record, 1, new_size);
+        let mut back = record(used, 7, 1, edits);
+        let got = counter_sys::resize_file(&mut image, &mut memory, &mut back, TEAM, 1, new_size);
         assert!(words == [0; 16] && bytes == [0; 26]);
         assert!(got.is_ok() || image == small_master());
-        (got, record.used, record.largest, record.edits)
+        let Team { taken, edits, .. } = back.teams[TEAM as usize];
+        assert_eq!(back, record(back.used, back.largest, taken, edits));
+        (got, back.used, back.largest, taken, edits)
     };
     // A byte more, a byte less, the present size, one that finds no place.
-    assert_eq!(resize(0, 0, 0x101), (Ok(()), 1, 0x19ff, 1));
-    assert_eq!(resize(MOST, 0, 0x101), (Err(25), MOST, 7, 0));
-    assert_eq!(resize(MOST - 1, 0, 0x101), (Ok(()), MOST, 0x19ff, 1));
-    assert_eq!(resize(0, 0, 0xff), (Err(25), 0, 7, 0));
-    assert_eq!(resize(1, 0, 0xff), (Ok(()), 0, 0x1a01, 1));
-    assert_eq!(resize(1, MOST, 0xff), (Err(25), 1, 7, MOST));
-    assert_eq!(resize(1, MOST - 1, 0xff), (Ok(()), 0, 0x1a01, MOST));
-    assert_eq!(resize(MOST, 5, 0x100), (Ok(()), MOST, 0x1a00, 6));
-    assert_eq!(resize(0, MOST, 0x100), (Err(25), 0, 7, MOST));
-    assert_eq!(resize(MOST, MOST, 0x1b01), (Err(21), MOST, 7, MOST));
+    assert_eq!(resize(0, 0, 0x101), (Ok(()), 1, 0x19ff, 2, 1));
+    assert_eq!(resize(MOST, 0, 0x101), (Err(25), MOST, 7, 1, 0));
+    assert_eq!(resize(MOST - 1, 0, 0x101), (Ok(()), MOST, 0x19ff, 2, 1));
+    assert_eq!(resize(0, 0, 0xff), (Err(25), 0, 7, 1, 0));
+    assert_eq!(resize(1, 0, 0xff), (Ok(()), 0, 0x1a01, 0, 1));
+    assert_eq!(resize(1, MOST, 0xff), (Err(25), 1, 7, 1, MOST));
+    assert_eq!(resize(1, MOST - 1, 0xff), (Ok(()), 0, 0x1a01, 0, MOST));
+    assert_eq!(resize(2, 0, 0xfe), (Ok(()), 0, 0x1a02, 0, 1));
+    assert_eq!(resize(MOST, 5, 0x100), (Ok(()), MOST, 0x1a00, 1, 6));
+    assert_eq!(resize(0, MOST, 0x100), (Err(25), 0, 7, 1, MOST));
+    assert_eq!(resize(MOST, MOST, 0x1b01), (Err(21), MOST, 7, 1, MOST));
     // It is all one file then.
-    assert_eq!(resize(0, 0, 0x1b00), (Ok(()), 0x1a00, 166, 1));
+    assert_eq!(resize(0, 0, 0x1b00), (Ok(()), 0x1a00, 166, 0x1a01, 1));
+}
+
+type Edit = fn(&mut [u8], &mut Memory, &mut Record, u32) -> Result<(), u32>;
+
+/// Edits of the small master, and what each of them costs.
+const EDITS: [(Edit, i64); 10] = [
+    (|i, m, r, team| counter_sys::insert_file(i, m, r, team, 0, b"b").map(|_| ()), 14),
+    (|i, m, r, team| counter_sys::insert_directory(i, m, r, team, 0, b"bb").map(|_| ()), 15),
+    (|i, m, r, team| counter_sys::make_directories(i, m, r, team, 0, b"n/m").map(|_| ()), 28),
+    (|i, m, r, team| counter_sys::move_file(i, m, r, team, 1, 0x600), 0),
+    (|i, m, r, team| counter_sys::resize_file(i, m, r, team, 1, 0x1b00), 0x1a00),
+    (|i, m, r, team| counter_sys::resize_file(i, m, r, team, 1, 0x100), 0),
+    (|i, m, r, team| counter_sys::resize_file(i, m, r, team, 1, 0), -0x100),
+    (|i, m, r, team| counter_sys::fill_file(i, m, r, team, 1, &[7; 0x105]), 5),
+    (|i, m, r, team| counter_sys::fill_file(i, m, r, team, 1, b"clip"), -0xfc),
+    (|i, m, r, team| counter_sys::rewrite(i, m, r, team), 0),
+];
+
+/// Each edit at the bounds of 27, 28 and 25, by the first team, one between and the last; and by one that there is not. What is
+/// refused gives back all of the record.
+#[test]
+fn an_edit_of_a_team() {
+    const MOST: u32 = u32::MAX;
+    for ((edit, cost), own) in EDITS.into_iter().flat_map(|edit| [0, 7, 15].map(|own| (edit, own)))
+    {
+        let number = |number: i64| u32::try_from(number + cost).unwrap();
+        // So much is kept for one of the others as will be free; another one has taken a byte more than its share.
+        let mut given = Record {
+            used: 5000,
+            largest: 3,
+            teams: [Team { edits: MOST, ..Team::default() }; TEAMS],
+        };
+        given.teams[own] = Team { limit: number(300), share: MOST, taken: 300, edits: 8 };
+        let (one, other) = ((own + 1) % TEAMS, (own + 15) % TEAMS);
+        given.teams[one] =
+            Team { share: u32::try_from(6832 - cost).unwrap(), taken: 10, ..given.teams[one] };
+        given.teams[other] = Team { share: 5, taken: 6, ..given.teams[other] };
+        let made = |team: u32, change: &dyn Fn(&mut Record)| {
+            let (mut image, mut words, mut bytes) = (small_master(), [9; 28], [9; 68]);
+            let mut memory = Memory { words: &mut words, bytes: &mut bytes };
+            let mut record = given;
+            change(&mut record);
+            let changed = record;
+            let answer = edit(&mut image, &mut memory, &mut record, team);
+            assert!(words == [0; 28] && bytes == [0; 68]);
+            assert!(answer.is_ok() || (image == small_master() && record == changed));
+            answer.map(|()| record)
+        };
+        let by = |change: &dyn Fn(&mut Record)| made(own as u32, change);
+        let after = by(&|_| ()).unwrap();
+        let mut wanted = Record { used: number(5000), largest: after.largest, ..given };
+        wanted.teams[own] = Team { taken: number(300), edits: 9, ..given.teams[own] };
+        assert_eq!(after, wanted);
+        assert_ne!(after.largest, 3);
+        for team in [16, 17, 1 << 16, MOST] {
+            assert_eq!(made(team, &|_| ()), Err(15));
+        }
+        // The limit, what is kept, and the other remainders, a byte more each.
+        assert_eq!(by(&|record| record.teams[own].limit -= 1), Err(27));
+        assert_eq!(by(&|record| record.teams[own].taken += 1), Err(27));
+        assert_eq!(by(&|record| record.teams[one].share += 1), Err(28));
+        assert_eq!(by(&|record| record.teams[one].taken -= 1), Err(28));
+        assert_eq!(by(&|record| record.teams[other].share += 2), Err(28));
+        assert_eq!(by(&|record| record.teams[other].taken -= 2), Err(28));
+        for full in (0..TEAMS).filter(|team| *team != own) {
+            assert_eq!(by(&|record| record.teams[full].share = MOST), Err(28));
+        }
+        // Its own share plays no part, and what is taken goes down to 0 at least.
+        let less =
+            by(&|record| record.teams[own] = Team { limit: MOST, share: 0, taken: 1, edits: 0 });
+        let taken = u32::try_from((1 + cost).max(0)).unwrap();
+        assert_eq!(less.unwrap().teams[own], Team { limit: MOST, share: 0, taken, edits: 1 });
+        // Its count, and used bytes.
+        assert_eq!(by(&|record| record.teams[own].edits = MOST), Err(25));
+        assert_eq!(
+            by(&|record| record.teams[own].edits = MOST - 1).unwrap().teams[own].edits,
+            MOST
+        );
+        let (least, most) = ((-cost).max(0), i64::from(MOST) - cost.max(0));
+        for (used, answer) in
+            [(least - 1, Err(25)), (least, Ok(())), (most, Ok(())), (most + 1, Err(25))]
+        {
+            if let Ok(used) = u32::try_from(used) {
+                assert_eq!(by(&|record| record.used = used).map(|_| ()), answer);
+            }
+        }
+        // 27 before 28 before 25.
+        let full = |record: &mut Record| record.teams[own].edits = MOST;
+        let kept = |record: &mut Record| record.teams[one].share += 1;
+        assert_eq!(
+            by(&|record| {
+                full(record);
+                kept(record)
+            }),
+            Err(28)
+        );
+        assert_eq!(
+            by(&|record| {
+                full(record);
+                kept(record);
+                record.teams[own].limit -= 1
+            }),
+            Err(27)
+        );
+    }
 }
 
 /// The header's word at 0x42c bounds the table that an edit writes; 0 does not. The small master's has 26 bytes,
@@ -376,20 +520,23 @@ fn a_stated_maximum() {
     ] {
         let mut image = small_master();
         image[0x42c..0x430].copy_from_slice(&most.to_be_bytes());
-        let (before, given) = (image.clone(), Record { used: 1, largest: 7, edits: 3 });
-        let (mut words, mut bytes, mut record) = ([9; 20], [9; 40], given);
+        let (before, mut record) = (image.clone(), record(1, 7, 0, 3));
+        let (mut words, mut bytes) = ([9; 20], [9; 40]);
         let mut memory = Memory { words: &mut words, bytes: &mut bytes };
         let m = &mut memory;
         assert_eq!(counter_sys::open(&image, m).unwrap().used, 1370);
-        assert_eq!(counter_sys::rewrite(&mut image, m, &mut record), rewritten, "{most}");
+        assert_eq!(counter_sys::rewrite(&mut image, m, &mut record, TEAM), rewritten, "{most}");
         assert!(image == before);
-        assert_eq!(record.edits, 3 + u32::from(rewritten.is_ok()));
+        assert_eq!(record.teams[TEAM as usize].edits, 3 + u32::from(rewritten.is_ok()));
         // The present size writes no table.
-        assert_eq!(counter_sys::resize_file(&mut image, m, &mut record, 1, 0x100), Ok(()));
-        assert_eq!(counter_sys::fill_file(&mut image, m, &mut record, 1, &[0; 0x100]), Ok(()));
+        assert_eq!(counter_sys::resize_file(&mut image, m, &mut record, TEAM, 1, 0x100), Ok(()));
+        assert_eq!(
+            counter_sys::fill_file(&mut image, m, &mut record, TEAM, 1, &[0; 0x100]),
+            Ok(())
+        );
         assert!(image == before);
         let kept = record;
-        assert_eq!(counter_sys::insert_file(&mut image, m, &mut record, 0, b"b"), inserted);
+        assert_eq!(counter_sys::insert_file(&mut image, m, &mut record, TEAM, 0, b"b"), inserted);
         assert_eq!((image == before, record == kept), (inserted.is_err(), inserted.is_err()));
         assert_eq!(image[0x42c..0x430], most.to_be_bytes());
         assert!(words == [0; 20] && bytes == [0; 40]);
@@ -461,7 +608,7 @@ fn an_empty_image() {
     let (mut words, mut bytes) = ([9; 2], [9; 2]);
     let mut memory = Memory { words: &mut words, bytes: &mut bytes };
     let m = &mut memory;
-    let r = &mut Record { used: 7, largest: 8, edits: 9 };
+    let r = &mut record(7, 8, 9, 10);
     assert_eq!(counter_sys::header(&image), Err(1));
     assert_eq!(counter_sys::open(&image, m), Err(1));
     assert_eq!(counter_sys::totals(&image, m), Err(1));
@@ -478,15 +625,15 @@ fn an_empty_image() {
     assert_eq!(counter_sys::open_file(&image, m, 9), Err(1));
     assert_eq!(counter_sys::open_dol(&image, m), Err(1));
     assert_eq!(counter_sys::table_anew(&image, m.words, &mut []), Err(1));
-    assert_eq!(counter_sys::make_record(&image, m), Err(1));
-    assert_eq!(counter_sys::insert_file(&mut image, m, r, 9, b""), Err(1));
-    assert_eq!(counter_sys::insert_directory(&mut image, m, r, 9, b""), Err(1));
-    assert_eq!(counter_sys::make_directories(&mut image, m, r, 9, &[0; 1025]), Err(1));
-    assert_eq!(counter_sys::move_file(&mut image, m, r, 9, 0), Err(1));
-    assert_eq!(counter_sys::resize_file(&mut image, m, r, 9, 0), Err(1));
-    assert_eq!(counter_sys::fill_file(&mut image, m, r, 9, b""), Err(1));
-    assert_eq!(counter_sys::rewrite(&mut image, m, r), Err(1));
-    assert_eq!(*r, Record { used: 7, largest: 8, edits: 9 });
+    assert_eq!(counter_sys::make_record(&image, m, &[1; TEAMS], &[1; TEAMS]), Err(1));
+    assert_eq!(counter_sys::insert_file(&mut image, m, r, 16, 9, b""), Err(1));
+    assert_eq!(counter_sys::insert_directory(&mut image, m, r, 16, 9, b""), Err(1));
+    assert_eq!(counter_sys::make_directories(&mut image, m, r, 16, 9, &[0; 1025]), Err(1));
+    assert_eq!(counter_sys::move_file(&mut image, m, r, 16, 9, 0), Err(1));
+    assert_eq!(counter_sys::resize_file(&mut image, m, r, 16, 9, 0), Err(1));
+    assert_eq!(counter_sys::fill_file(&mut image, m, r, 16, 9, b""), Err(1));
+    assert_eq!(counter_sys::rewrite(&mut image, m, r, 16), Err(1));
+    assert_eq!(*r, record(7, 8, 9, 10));
     assert_eq!((words, bytes), ([0; 2], [0; 2]));
 }
 
