@@ -554,7 +554,7 @@ impl Run {
 
     /// `images` masters, each with a list of edits by turns.
     pub fn by_turns(&mut self, seed: u64, images: u64) {
-        let mut begun = 0;
+        let (mut begun, mut waves) = (0, 0);
         while begun < images && !self.over() {
             let mut cases = vec![];
             while cases.len() < WAVE && begun < images {
@@ -576,6 +576,10 @@ impl Run {
                 self.edits(&mut cases);
             }
             self.ledgers(&cases);
+            waves += 1;
+            if waves % 20 == 0 {
+                eprintln!("{begun} images, {} calls", self.counts.total());
+            }
         }
     }
 
