@@ -25,7 +25,7 @@ use Rattle.worked.specs.Laws.Maximum.{tight, insert_b, tight-opens, tight-plan, 
 use Rattle.worked.specs.Laws.Planned.{accepted-by, refused-by}
 use Rattle.worked.specs.Laws.OnMaster.{answer, image, after, sized, costless, resizes}
 
--- a record of the small master, or of one that it was
+-- a record with so many used bytes, so large a free region, and these teams first
 abbrev record_of : ℕ → ℕ → List Team → Totals
 record_of used largest first = record { used = used; largest = largest; teams = teams first }
 
@@ -43,7 +43,7 @@ unbounded = team most 0 0 0
 abbrev above : Account
 above = by 0 (team 5 0 9 0 ∷ [])
 
--- of two teams, one may take 500 bytes
+-- of two teams the one that edits may take 500 bytes
 abbrev two : Account
 two = by 0 (team 500 100 0 0 ∷ team most 6000 0 0 ∷ [])
 
@@ -57,11 +57,11 @@ pub record Limits : Type 0 where
   pub made : record_answer master master_words (500 ∷ most ∷ replicate 14 0) (100 ∷ 6000 ∷ replicate 14 0) ≡ Ok two.totals
   pub over : answer (resize_file 1 757) two ≡ Err TakenAboveLimit
   pub exact : (answer (resize_file 1 756) two ≡ Ok tt) × (after (resize_file 1 756) two ≡ record_of 1870 6156 (team 500 100 500 1 ∷ team most 6000 0 0 ∷ []))
-  -- neither sum wraps: a byte more than 2^32 - 1
+  -- the sum does not wrap: a byte more than 2^32 - 1
   pub most-taken : answer (resize_file 1 257) (by 0 (team most 0 most 0 ∷ [])) ≡ Err TakenAboveLimit
   -- bytes given back: one of 9 is too few for a limit of 5, four are enough
   pub given-back : (answer (resize_file 1 255) above ≡ Err TakenAboveLimit) × (answer (resize_file 1 252) above ≡ Ok tt) × (after (resize_file 1 252) above ≡ record_of 1366 6660 (team 5 0 5 1 ∷ []))
-  -- more of them than it has taken: none are taken then; and fewer
+  -- more bytes than it has taken: none are taken then; and fewer
   pub below-0 : after (resize_file 1 0) (by 0 (team most 0 100 0 ∷ [])) ≡ record_of 1114 7078 (team most 0 0 1 ∷ [])
   pub fewer : after (resize_file 1 0) (by 0 (team most 0 300 0 ∷ [])) ≡ record_of 1114 7078 (team most 0 44 1 ∷ [])
   -- the cost is the image's, whatever the record holds: 500 bytes where it says that 1869 are used
