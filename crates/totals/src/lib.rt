@@ -6,7 +6,7 @@ mod team;
 
 ghost use Rattle.std.specs.Prelude.{◌≡◌, ◌<◌, ◌^◌, OnOk, OnErr};
 ghost use Rattle.totals.specs.Totals.{totals_verdict, moved_totals};
-ghost use Rattle.totals.specs.Inner.{used_after};
+ghost use Rattle.totals.specs.Inner.Moving.{used_after};
 
 use refusal::{Refusal, Verdict};
 pub use team::{TEAMS, Team, new_teams, team_number};

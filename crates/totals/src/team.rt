@@ -1,7 +1,7 @@
 // The teams that edit one image by turns.
 ghost use Rattle.std.specs.Prelude.{◌≡◌, ◌<◌, ◌≤◌, ◌^◌, length};
 ghost use Rattle.totals.specs.Totals as totals_of;
-ghost use Rattle.totals.specs.Inner.{taken_after, edits_after};
+ghost use Rattle.totals.specs.Inner.Moving.{taken_after, edits_after};
 
 use crate::SpaceChange;
 use refusal::Refusal;

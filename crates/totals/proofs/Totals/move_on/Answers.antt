@@ -3,7 +3,7 @@ use Rattle.std.specs.Prelude.{Result, ℕ, ◌≡◌, List, slice_index_or}
 use Rattle.std.proofs.Common.{ap, ◌∙◌, arith, rules}
 use Rattle.refusal.specs.declared.Refusal.{Refusal}
 use Rattle.totals.specs.declared.team.Team.{Team}
-use Rattle.totals.specs.Inner.{edits_after}
+use Rattle.totals.specs.Inner.Moving.{edits_after}
 use Rattle.totals.specs.Totals.{new_team, totals_verdict}
 use Rattle.totals.proofs.Totals.move_on.Goals as goal
 
