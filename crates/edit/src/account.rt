@@ -34,8 +34,8 @@ fn space_change(disc: &OpenDisc<'_>, size: usize, old: DiscRegion, new: DiscRegi
     }
 }
 
-// What an edit that decides on this does to them; where the table stays and no file moves they are as they
-// were.
+// What an edit that decides on this does to used and free bytes; where the table stays and no file moves they
+// are as they were.
 fn change_of(disc: &OpenDisc<'_>, decision: Decision) -> SpaceChange
     requires { OnDisc disc.now.disc (Ok decision) }
     ensures change { OfUsed disc.now (λ image behind. result ≡ change_for image behind decision) }
