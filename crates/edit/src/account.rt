@@ -15,7 +15,8 @@ use totals::{SpaceChange, Totals};
 // from the used regions in the words.
 fn space_change(disc: &OpenDisc<'_>, size: usize, old: DiscRegion, new: DiscRegion) -> SpaceChange
     requires { disc.now.disc.start + size ≤ disc.now.disc.end }
-    ensures change { OfUsed disc.now (λ image behind. result ≡ change_as image behind size old new) }
+    ensures change { OfUsed disc.now (λ image behind.
+        result ≡ change_as image behind size old new) }
     ensures before_fits { result.before < 2 ^ 34 }
     ensures after_fits { result.after < 2 ^ 34 }
 {
