@@ -181,13 +181,14 @@ fn shown(args: &Args, kept: &Kept) -> Outcome<()> {
 
 /// Only a record is replaced, and only if that is wanted; one with teams by one with teams.
 fn may_be_replaced(kept: &Kept, args: &Args) -> Outcome<()> {
+    let has_teams = |bytes: &[u8]| bytes.starts_with(SECOND.as_bytes());
     let why = match &kept.bytes {
         None => return Ok(()),
         Some(bytes) if !account::begins(bytes) => "is there already, and is no record",
-        Some(_) if !args.force => "is there already; --force replaces it",
-        Some(bytes) if bytes.starts_with(SECOND.as_bytes()) && args.teams.is_none() => {
+        Some(bytes) if has_teams(bytes) && args.teams.is_none() => {
             "is there already, and has teams; --force --teams LIST replaces it, or take it away"
         }
+        Some(_) if !args.force => "is there already; --force replaces it",
         Some(_) => return Ok(()),
     };
     Err(Failure::error(CANNOT_CREATE, format!("{}: {why}", names::file(&kept.file))))

@@ -662,7 +662,7 @@ fn a_record_goes_with_its_edit_through_a_power_cut() {
     let temp = Temp::new();
     let given = temp.write("given", &clip(0x700, 28));
     cut_with_record(master(0), &["fill", "next", given.to_str().unwrap()], 28);
-    cut_with_teams(master(0), &["mkdir", "d"], 14, 33);
+    cut_with_teams(master(0), &["mkdir", "e"], 14, 33);
     cut_with_teams(master(0), &["move", "next", "0x2FFFE"], 0, 34);
 }
 

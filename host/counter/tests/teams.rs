@@ -161,15 +161,13 @@ fn two_teams_by_turns() {
     said("art", &image, &file, &["resize", "a", "6911"]);
 
     // All of them, without the image.
-    let text = format!(
-        "used 8,025 bytes, largest free region 166 bytes, edits 4\n\
+    let wanted = "used 8,025 bytes, largest free region 166 bytes, edits 4\n\
          team  name           limit  share  taken  left of limit  left of share  edits\n\
          \x20  0  art             none      0  6,912           none              0      2\n\
-         \x20  1  sound effects  7,000    167      0          7,000            167      2\n"
-    );
+         \x20  1  sound effects  7,000    167      0          7,000            167      2\n";
     let name = file.to_str().unwrap();
     let shown = support::run(&["record", name]);
-    assert_eq!((shown.status, shown.out), (0, text), "{}", shown.err);
+    assert_eq!((shown.status, shown.out.as_str()), (0, wanted), "{}", shown.err);
     let told = Json::read(&support::run(&["record", name, "--json"]).out);
     let record = told.at("record");
     let numbers = ["used", "largest_free", "edits"].map(|name| record.at(name).number());
@@ -723,7 +721,24 @@ fn teams_are_not_lost_unsaid() {
         assert_eq!(read(&file), kept);
         let has =
             "is there already, and has teams; --force --teams LIST replaces it, or take it away";
-        assert_eq!(run.err.contains(has), !more.is_empty(), "{}", run.err);
+        assert!(run.err.contains(has), "{}", run.err);
+    }
+    // One without teams goes for one with teams, or for another without.
+    let list = temp.write("teams.txt", b"0 none 5 art\n");
+    for (more, wanted) in [
+        (&[][..], "counter record 1\nused 1370 largest 6656 edits 0\n".into()),
+        (
+            &["--teams", list.to_str().unwrap()],
+            first("team 0 limit none share 5 taken 0 edits 0 name art\n"),
+        ),
+    ] {
+        let plain = temp.write("plain", b"counter record 1\nused 1370 largest 6656 edits 4\n");
+        let args = ["--record", plain.to_str().unwrap()];
+        let run = on("record", &image, &[&args, more].concat());
+        assert_eq!(run.status, 73, "{}", run.err);
+        assert!(run.err.contains("is there already; --force replaces it"), "{}", run.err);
+        done("record", &image, &[&args, more, &["--force"]].concat());
+        assert_eq!(read(&plain), wanted);
     }
     // Somebody edits without it.
     done("mkdir", &image, &["d"]);
