@@ -157,7 +157,8 @@ pub extern "C" fn counter_insert_directory(
     name: &[u8],
     answer: &mut u32,
 ) -> u32
-    ensures { IsEdited (entry_reply (one_word answer.old)) (edits.insert_directory parent name.now) team
+    ensures { IsEdited (entry_reply (one_word answer.old))
+        (edits.insert_directory parent name.now) team
         (loan image.old words.old bytes.old totals.old)
         (loan image.new words.new bytes.new totals.new) (reply result (one_word answer.new)) }
 {
@@ -177,7 +178,8 @@ pub extern "C" fn counter_make_directories(
     path: &[u8],
     answer: &mut u32,
 ) -> u32
-    ensures { IsEdited (entry_reply (one_word answer.old)) (edits.make_directories start path.now) team
+    ensures { IsEdited (entry_reply (one_word answer.old))
+        (edits.make_directories start path.now) team
         (loan image.old words.old bytes.old totals.old)
         (loan image.new words.new bytes.new totals.new) (reply result (one_word answer.new)) }
 {
