@@ -37,6 +37,7 @@ fn main() {
     original::copy();
     println!("cargo:rustc-check-cfg=cfg(before)");
     println!("cargo:rustc-check-cfg=cfg(records_before)");
+    println!("cargo:rustc-check-cfg=cfg(teams_before)");
     let folder = env::var_os("COUNTER_LIB").expect("set COUNTER_LIB to the folder of libcounter.a");
     four_times("now", &folder);
     println!("cargo:rerun-if-env-changed=COUNTER_LIB");
@@ -46,6 +47,9 @@ fn main() {
         println!("cargo:rustc-cfg=before");
         if has_records(&folder) {
             println!("cargo:rustc-cfg=records_before");
+            if has_teams(&folder) {
+                println!("cargo:rustc-cfg=teams_before");
+            }
         }
     }
 }
@@ -60,6 +64,31 @@ fn has_records(folder: &OsStr) -> bool {
     let library = std::fs::read(Path::new(folder).join("libcounter.a")).unwrap();
     let name = b"counter_make_record";
     library.windows(name.len()).any(|part| part == name)
+}
+
+/// Asks for a record of an image that holds the root alone: where it has teams, limits and shares stand before it.
+const HAS_TEAMS: &str = "
+#include <stddef.h>
+#include <stdint.h>
+uint32_t counter_make_record(const uint8_t *, size_t, uint32_t *, size_t, uint32_t *, uint32_t *, uint32_t *);
+int main(void)
+{
+    static uint8_t image[0x1000] = { [0x1c] = 0xc2, 0x33, 0x9f, 0x3d, [0x426] = 4, 0x40, [0x42b] = 12,
+        [0x436] = 16, [0x440] = 1, [0x44b] = 1 };
+    static uint32_t words[64], limits[16], shares[16], record[66];
+    return counter_make_record(image, sizeof image, words, 64, limits, shares, record) != 0 || record[0] == 0;
+}
+";
+
+/// Whether a record of the library in `folder` holds teams.
+fn has_teams(folder: &OsStr) -> bool {
+    let out = env::var("OUT_DIR").unwrap();
+    let [source, program] = ["has_teams.c", "has_teams"].map(|name| Path::new(&out).join(name));
+    std::fs::write(&source, HAS_TEAMS).unwrap();
+    let library = Path::new(folder).join("libcounter.a");
+    let words = [source.as_os_str(), library.as_os_str(), OsStr::new("-o"), program.as_os_str()];
+    run("cc", &words);
+    Command::new(&program).status().unwrap().success()
 }
 
 /// Links in `NAME_CALL_0` to `NAME_CALL_3`: `counter_CALL` of the library in `folder`.

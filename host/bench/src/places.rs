@@ -1,8 +1,8 @@
 //! Calls of the library and of an earlier one, each at four places in memory (build.rs). Without an earlier library it is this one.
 
 use crate::measure::Watch;
-use crate::sides::{Call, RECORD};
-use counter_sys::Record;
+use crate::sides::{Call, RECORD, TEAM};
+use counter_sys::{RECORD_WORDS, Record, TEAMS};
 use std::time::Duration;
 
 macro_rules! at_four_places {
@@ -44,15 +44,21 @@ before_and_now!(
     now_lookup_0 now_lookup_1 now_lookup_2 now_lookup_3
 );
 
-/// As `before_and_now` for an edit, by what it takes behind the record. The earlier library may have no records.
+/// As `before_and_now` for an edit, by what it takes behind record and team. The earlier library may have no teams, or no records.
 macro_rules! edit_before_and_now {
     ($before:ident $now:ident ($($arg:ident: $type:ty),*): $($earlier:ident)*, $($later:ident)*) => {
         at_four_places!($now: (
             image: *mut u8, n: usize, words: *mut u32, m: usize, bytes: *mut u8, room: usize,
-            record: *mut u32 $(, $arg: $type)*
+            record: *mut u32, team: u32 $(, $arg: $type)*
         ) $($later)*);
 
-        #[cfg(all(before, records_before))]
+        #[cfg(all(before, teams_before))]
+        at_four_places!($before: (
+            image: *mut u8, n: usize, words: *mut u32, m: usize, bytes: *mut u8, room: usize,
+            record: *mut u32, team: u32 $(, $arg: $type)*
+        ) $($earlier)*);
+
+        #[cfg(all(before, records_before, not(teams_before)))]
         at_four_places!($before: (
             image: *mut u8, n: usize, words: *mut u32, m: usize, bytes: *mut u8, room: usize,
             record: *mut u32 $(, $arg: $type)*
@@ -69,17 +75,24 @@ macro_rules! edit_before_and_now {
     };
 }
 
-/// A call of an edit of the earlier library: it gets the record only where it has records.
-#[cfg(any(not(before), records_before))]
+/// A call of an edit of the earlier library: it gets the team only where it has teams, the record only where it has records.
+#[cfg(any(not(before), teams_before))]
 macro_rules! call_before {
-    ($edit:ident($($lent:expr),*; $record:expr $(, $given:expr)*)) => {
+    ($edit:ident($($lent:expr),*; $record:expr, $team:expr $(, $given:expr)*)) => {
+        $edit($($lent,)* $record, $team $(, $given)*)
+    };
+}
+
+#[cfg(all(before, records_before, not(teams_before)))]
+macro_rules! call_before {
+    ($edit:ident($($lent:expr),*; $record:expr, $team:expr $(, $given:expr)*)) => {
         $edit($($lent,)* $record $(, $given)*)
     };
 }
 
 #[cfg(all(before, not(records_before)))]
 macro_rules! call_before {
-    ($edit:ident($($lent:expr),*; $record:expr $(, $given:expr)*)) => {
+    ($edit:ident($($lent:expr),*; $record:expr, $team:expr $(, $given:expr)*)) => {
         $edit($($lent),* $(, $given)*)
     };
 }
@@ -93,7 +106,7 @@ before_and_now!(
 
 at_four_places!(
     MAKE_RECORD:
-    (image: *const u8, n: usize, words: *mut u32, m: usize, record: *mut u32)
+    (image: *const u8, n: usize, words: *mut u32, m: usize, limits: *const u32, shares: *const u32, record: *mut u32)
     now_make_record_0 now_make_record_1 now_make_record_2 now_make_record_3
 );
 
@@ -165,6 +178,19 @@ pub fn time_open(open: Open, image: &[u8], words: &mut [u32]) -> Duration {
     accepted(timed(|| unsafe { open(image.as_ptr(), image.len(), at, len, disc.as_mut_ptr()) }))
 }
 
+/// A record made, at one of the four places.
+pub fn time_record(
+    place: usize,
+    image: &[u8],
+    words: &mut [u32],
+    [limits, shares]: &[[u32; TEAMS]; 2],
+) -> Duration {
+    let (make, mut record) = (MAKE_RECORD[place], [0; RECORD_WORDS]);
+    let (image, n, at, len) = (image.as_ptr(), image.len(), words.as_mut_ptr(), words.len());
+    let (limits, shares, r) = (limits.as_ptr(), shares.as_ptr(), record.as_mut_ptr());
+    accepted(timed(|| unsafe { make(image, n, at, len, limits, shares, r) }))
+}
+
 /// From the root.
 pub fn time_lookup(lookup: Lookup, image: &[u8], words: &mut [u32], path: &[u8]) -> Duration {
     let mut entry = [0; 4];
@@ -197,6 +223,11 @@ impl Case {
     /// With as many of the bytes as are asked for. Either library is called with nothing between.
     pub fn edit(&mut self, call: &Call, side: usize, place: usize, room: usize) -> Edited {
         let (mut record, mut answer) = (RECORD.slots(), [0]);
+        if side == 0 && !cfg!(teams_before) {
+            // Used bytes, the largest free region, and the count of edits.
+            record = [0; RECORD_WORDS];
+            record[0] = RECORD.used;
+        }
         let (r, a) = (record.as_mut_ptr(), answer.as_mut_ptr());
         let (image, n) = (self.image.as_mut_ptr(), self.image.len());
         let (words, m) = (self.words.as_mut_ptr(), self.words.len());
@@ -207,11 +238,11 @@ impl Case {
                 if side == 0 {
                     let edit = $before[place];
                     timed(|| unsafe {
-                        call_before!(edit(image, n, words, m, bytes, room; r $(, $given)*))
+                        call_before!(edit(image, n, words, m, bytes, room; r, TEAM $(, $given)*))
                     })
                 } else {
                     let edit = $now[place];
-                    timed(|| unsafe { edit(image, n, words, m, bytes, room, r $(, $given)*) })
+                    timed(|| unsafe { edit(image, n, words, m, bytes, room, r, TEAM $(, $given)*) })
                 }
             };
         }

@@ -1,11 +1,12 @@
-//! Every edit with a record, against an earlier library, which may have no records; and a record made, beside its totals.
+//! Every edit with a record of teams, against an earlier library, which may have no teams, or no records; and a record made, beside its
+//! totals.
 
 use crate::calls::{NEW, Table, clip, directory};
 use crate::images::{self, FST_OFFSET, KINDS, Plan};
 use crate::measure::{Undo, tenth};
-use crate::places::{Case, MAKE_RECORD, TOTALS_BEFORE, time_open};
-use crate::sides::{Call, Lent, RECORD};
-use counter_sys::{self as counter, Memory, REGION_WORDS, Record};
+use crate::places::{Case, TOTALS_BEFORE, time_open, time_record};
+use crate::sides::{Call, Lent, RECORD, TEAM};
+use counter_sys::{self as counter, Memory, REGION_WORDS, Record, TEAMS, Team};
 use std::time::Duration;
 
 const BAR: f64 = 1.1;
@@ -63,14 +64,21 @@ fn best(all: [Duration; 8]) -> [Duration; 2] {
     [&all[..4], &all[4..]].map(|side| *side.iter().min().unwrap())
 }
 
-/// Used bytes as `totals` tells them, the largest of the free regions, and no edit.
+/// Limits and shares, each another number.
+fn limits_and_shares() -> [[u32; TEAMS]; 2] {
+    [1 << 20, 1 << 10].map(|first| std::array::from_fn(|k| first + k as u32))
+}
+
+/// Used bytes as `totals` tells them, the largest of the free regions, and teams that have taken nothing.
 fn record_of(image: &[u8], entries: usize) -> Record {
     let Lent { mut words, mut bytes, mut list } = Lent::new(entries, 0, entries + 1);
     let memory = &mut Memory { words: &mut words, bytes: &mut bytes };
     let (_, used) = counter::totals(image, memory).unwrap();
     let count = counter::free_regions(image, memory, &mut list).unwrap() as usize;
     let sizes = list.chunks(REGION_WORDS).take(count).map(|region| region[1]);
-    Record { used, largest: sizes.max().unwrap_or(0), edits: 0 }
+    let [limits, shares] = limits_and_shares();
+    let team = |k: usize| Team { limit: limits[k], share: shares[k], taken: 0, edits: 0 };
+    Record { used, largest: sizes.max().unwrap_or(0), teams: std::array::from_fn(team) }
 }
 
 /// Where the table says that the file in the middle lies.
@@ -89,11 +97,12 @@ fn hold(plan: &Plan, call: &Call, end: End, case: &mut Case) -> Undo {
     assert_eq!([earlier.number, now.number], [end.number(); 2]);
     assert_eq!(place(plan, &before) != place(plan, &after), end == End::Moves);
     let [old, new] = [&before, &after].map(|image| record_of(image, plan.nodes.len() + NEW));
-    let used = RECORD.used + new.used - old.used;
-    let right = match end {
-        End::Refused => RECORD,
-        _ => Record { used, largest: new.largest, edits: RECORD.edits + 1 },
-    };
+    let mut right = RECORD;
+    if end != End::Refused {
+        (right.used, right.largest) = (RECORD.used + new.used - old.used, new.largest);
+        let own = &mut right.teams[TEAM as usize];
+        (own.taken, own.edits) = (own.taken + new.used - old.used, 1);
+    }
     assert_eq!(now.record, right);
     let undo = Undo::between(&before, &after);
     undo.apply(&mut case.image);
@@ -115,10 +124,14 @@ fn edit(plan: &Plan, call: &Call, end: End) -> [Duration; 2] {
 
 fn made(plan: &Plan) -> [Duration; 2] {
     let Case { image, mut words, mut bytes } = case(plan);
-    let made = counter::make_record(&image, &mut Memory { words: &mut words, bytes: &mut bytes });
+    let memory = &mut Memory { words: &mut words, bytes: &mut bytes };
+    let lists = limits_and_shares();
+    let made = counter::make_record(&image, memory, &lists[0], &lists[1]);
     assert_eq!(made, Ok(record_of(&image, plan.nodes.len())));
-    let calls = [TOTALS_BEFORE, MAKE_RECORD];
-    best(tenth(BUDGET, |side| time_open(calls[side / 4][side % 4], &image, &mut words)))
+    best(tenth(BUDGET, |side| match side {
+        0..4 => time_open(TOTALS_BEFORE[side], &image, &mut words),
+        _ => time_record(side - 4, &image, &mut words, &lists),
+    }))
 }
 
 pub fn run(misses: &mut Vec<String>) {

@@ -4,7 +4,7 @@
 use crate::dvd::disc::{DiscRegion, DiscStream};
 use crate::dvd::fst::{DirectoryEntry, EntryId, FileEntry, FileTree};
 use crate::measure::Watch;
-use counter_sys::{self as counter, CLUSTER_WORDS, Memory, REGION_WORDS, Record};
+use counter_sys::{self as counter, CLUSTER_WORDS, Memory, REGION_WORDS, Record, TEAMS, Team};
 use encoding_rs::SHIFT_JIS;
 use std::borrow::Cow;
 use std::hint::black_box;
@@ -55,8 +55,15 @@ impl Call {
 
 pub type Timed = (Duration, Vec<u32>);
 
-/// What goes into every edit: numbers that no edit here takes past their bounds.
-pub const RECORD: Record = Record { used: 1 << 31, largest: 0, edits: 0 };
+/// The team that every edit carries.
+pub const TEAM: u32 = 11;
+
+/// What goes into every edit: numbers that no edit here takes past their bounds. All teams have some of their share left.
+pub const RECORD: Record = Record {
+    used: 1 << 31,
+    largest: 0,
+    teams: [Team { limit: u32::MAX, share: (1 << 31) + 1, taken: 1 << 31, edits: 0 }; TEAMS],
+};
 
 /// Counter's side, with the memory it is lent.
 pub struct Lent {
@@ -108,24 +115,25 @@ impl Lent {
                 counter::max_file_size(image, memory, *file).map(|n| vec![n])
             }
             Call::InsertFile(parent, name) => {
-                counter::insert_file(image, memory, record, *parent, name).map(|n| vec![n])
+                counter::insert_file(image, memory, record, TEAM, *parent, name).map(|n| vec![n])
             }
             Call::InsertDirectory(parent, name) => {
-                counter::insert_directory(image, memory, record, *parent, name).map(|n| vec![n])
+                counter::insert_directory(image, memory, record, TEAM, *parent, name)
+                    .map(|n| vec![n])
             }
             Call::MakeDirectories(path) => {
-                counter::make_directories(image, memory, record, 0, path).map(|n| vec![n])
+                counter::make_directories(image, memory, record, TEAM, 0, path).map(|n| vec![n])
             }
             Call::Move(file, to) => {
-                counter::move_file(image, memory, record, *file, *to).map(|()| vec![])
+                counter::move_file(image, memory, record, TEAM, *file, *to).map(|()| vec![])
             }
             Call::Resize(file, to) => {
-                counter::resize_file(image, memory, record, *file, *to).map(|()| vec![])
+                counter::resize_file(image, memory, record, TEAM, *file, *to).map(|()| vec![])
             }
             Call::Fill(file, clip) => {
-                counter::fill_file(image, memory, record, *file, clip).map(|()| vec![])
+                counter::fill_file(image, memory, record, TEAM, *file, clip).map(|()| vec![])
             }
-            Call::Rewrite => counter::rewrite(image, memory, record).map(|()| vec![]),
+            Call::Rewrite => counter::rewrite(image, memory, record, TEAM).map(|()| vec![]),
         };
         (start.elapsed(), answer)
     }

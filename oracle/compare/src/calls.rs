@@ -13,7 +13,8 @@ pub enum Call {
     Free,
     Used,
     Total,
-    MakeRecord,
+    /// With limits and shares, team 0 first.
+    MakeRecord(Vec<u32>, Vec<u32>),
     Entry(u32),
     Lookup(u32, Vec<u8>),
     MaxFile(u32),
@@ -46,6 +47,13 @@ pub fn hex(bytes: &[u8]) -> String {
     out
 }
 
+/// Numbers parted by commas; zeros at the end are left out.
+fn list(numbers: &[u32]) -> String {
+    let count = numbers.len() - numbers.iter().rev().take_while(|number| **number == 0).count();
+    let words: Vec<String> = numbers[..count].iter().map(u32::to_string).collect();
+    if words.is_empty() { "-".into() } else { words.join(",") }
+}
+
 pub fn unhex(text: &str) -> Vec<u8> {
     let digit = |c: u8| (c as char).to_digit(16).unwrap() as u8;
     text.trim_start_matches('-')
@@ -66,7 +74,7 @@ impl Call {
             Call::Free => "free",
             Call::Used => "used",
             Call::Total => "total",
-            Call::MakeRecord => "make_record",
+            Call::MakeRecord(..) => "make_record",
             Call::Entry(_) => "entry",
             Call::Lookup(..) => "lookup",
             Call::MaxFile(_) => "maxfile",
@@ -141,6 +149,14 @@ impl Call {
     fn line_with(&self, text: &str) -> String {
         let name = self.name();
         match self {
+            Call::MakeRecord(limits, shares) => {
+                let [limits, shares] = [limits, shares].map(|numbers| list(numbers));
+                match (&*limits, &*shares) {
+                    ("-", "-") => name.into(),
+                    (_, "-") => format!("{name} {limits}"),
+                    _ => format!("{name} {limits} {shares}"),
+                }
+            }
             Call::Entry(n) | Call::MaxFile(n) => format!("{name} {n}"),
             Call::Lookup(n, _)
             | Call::InsertFile(n, _)
@@ -166,7 +182,7 @@ impl Call {
 
     /// The command for the original, which has no records: its free regions tell what one would hold.
     pub fn line_of_original(&self) -> String {
-        if *self == Call::MakeRecord { Call::Free.line() } else { self.line() }
+        if let Call::MakeRecord(..) = self { Call::Free.line() } else { self.line() }
     }
 
     /// The command for the original, with the text that it reads these bytes as, even if they do not

@@ -1,8 +1,8 @@
 //! Boundaries that calls meet, counted so that a run shows that it met them.
 
 use crate::calls::Call;
-use crate::judge::{New, keeps_size, new_place, no_room, record_after, used_after};
-use crate::rules::{self, Entry, Record, Refusal, Tree, stray, word};
+use crate::judge::{Account, New, keeps_size, new_place, no_room, record_after, used_after};
+use crate::rules::{self, Entry, MOST, Record, Refusal, TEAMS, Team, Tree, stray, word};
 use std::collections::BTreeMap;
 
 /// Those that are met.
@@ -176,12 +176,13 @@ pub fn of_text(call: &Call, expected: &str) -> Vec<&'static str> {
 pub fn of_record(
     tree: Option<&Tree>,
     call: &Call,
-    record: Record,
+    account: &Account,
     made: bool,
     expected: &str,
 ) -> Vec<&'static str> {
-    const MOST: u64 = u32::MAX as u64;
-    let full = record.edits == MOST;
+    let Account { record, team } = account;
+    let Some(own) = record.teams.get(*team as usize) else { return vec![] };
+    let full = own.edits == MOST;
     let Some(tree) = tree else {
         return of(&[(full, "record: 25 due, and the image does not open")]);
     };
@@ -201,6 +202,13 @@ pub fn of_record(
         ]);
     }
     let table = no_room(tree, call, expected) && after.is_some();
+    if matches!(expected, "err 27" | "err 28") {
+        let due = full || outside;
+        return of(&[
+            (due && expected == "err 27", "record: 25 due, and 27 comes first"),
+            (due && expected == "err 28", "record: 25 due, and 28 comes first"),
+        ]);
+    }
     if !expected.starts_with("ok") {
         let due = full || outside;
         return of(&[
@@ -218,8 +226,8 @@ pub fn of_record(
             (outside && table, "record: used bytes would leave, and the table's 21 comes first"),
         ]);
     }
-    let Ok(Some(moved)) = record_after(tree, call, record) else { return vec![] };
-    let afresh = Record::of(tree);
+    let Ok(Ok(moved)) = record_after(tree, call, *account) else { return vec![] };
+    let afresh = Record::of(tree, &[], &[]);
     let true_one = record.used == afresh.used && record.largest == afresh.largest;
     of(&[
         (made, "record: made at opening"),
@@ -234,7 +242,159 @@ pub fn of_record(
         (change == 0, "record: used bytes stay"),
         (moved.used == 0, "record: used bytes 0 afterwards"),
         (moved.used == MOST, "record: used bytes 2^32 - 1 afterwards"),
-        (moved.edits == MOST, "record: count 2^32 - 1 afterwards"),
+        (own.edits + 1 == MOST, "record: count 2^32 - 1 afterwards"),
+    ])
+}
+
+/// What stands out about a record that is made with these limits and shares.
+pub fn of_made(tree: &Tree, limits: &[u32], shares: &[u32]) -> Vec<&'static str> {
+    let made = Record::of(tree, limits, shares);
+    let (sum, free) = (made.left_to_others(TEAMS), tree.free_bytes());
+    of(&[
+        (limits.len() == TEAMS && shares.len() == TEAMS, "teams: a record made, all named"),
+        (limits.is_empty() && shares.is_empty(), "teams: a record made, none named"),
+        (limits.is_empty() && !shares.is_empty(), "teams: a record made, shares alone named"),
+        (sum > free, "teams: a record made, shares above the free bytes"),
+        (sum > MOST, "teams: a record made, shares above 2^32 - 1 together"),
+        (limits.contains(&u32::MAX), "teams: a record made, a limit of 2^32 - 1"),
+    ])
+}
+
+/// What stands out about the team that an edit carries and what the record holds of all teams.
+pub fn of_team(
+    tree: Option<&Tree>,
+    call: &Call,
+    account: &Account,
+    expected: &str,
+) -> Vec<&'static str> {
+    let Account { record, team } = account;
+    let above = *team as usize >= TEAMS;
+    let Some(tree) = tree else {
+        return of(&[
+            (true, "teams: edits of an image that does not open"),
+            (above, "teams: above 15, and the image does not open"),
+        ]);
+    };
+    let mut met = vec!["teams: edits of an image that opens"];
+    if above {
+        let long = call.text().is_some_and(|text| text.len() > rules::PATH);
+        let outside = call.target().is_some_and(|target| target as usize >= tree.entries.len());
+        met.extend(of(&[
+            (*team == 16, "teams: 15 for team 16"),
+            (*team == u32::MAX, "teams: 15 for team 2^32 - 1"),
+            (long, "teams: above 15, and a path over 1,024 bytes"),
+            (!outside && New::of(tree, call).is_none(), "teams: above 15, and a path with trouble"),
+            (used_after(tree, call).is_some(), "teams: above 15, and file and table are planned"),
+        ]));
+        return met;
+    }
+    let after = used_after(tree, call);
+    let cost = after.map_or(0, |after| after as i64 - tree.used() as i64);
+    let free = tree.disc_end.saturating_sub(after.unwrap_or(tree.used()));
+    let place = *team as usize;
+    let (own, left) = (record.teams[place], record.left_to_others(place));
+    let others = || record.teams.iter().enumerate().filter(|(k, _)| *k != place).map(|(_, t)| t);
+    let passed = own.taken as i64 + cost;
+    let (due_27, due_28) = (passed > own.limit as i64, free < left);
+    let used = record.used as i64 + cost;
+    let due_25 = own.edits == MOST || used < 0 || used > MOST as i64;
+    let unclipped: i64 = others().map(|t| t.share as i64 - t.taken as i64).sum();
+    let (keeps, rewrite) = (keeps_size(tree, call), *call == Call::Rewrite);
+    // By a rule that is not this one.
+    let own_counts = left + own.left() > free;
+    let free_before = tree.free_bytes();
+    let full = |team: &Team| team.edits == MOST;
+    met.extend(match expected {
+        "err 27" => of(&[
+            (passed == own.limit as i64 + 1, "teams: 27, by one byte"),
+            (
+                own.taken > own.limit,
+                "teams: 27, and the taken bytes that go in are above the limit",
+            ),
+            (cost == 0, "teams: 27, and it costs nothing"),
+            (cost < 0, "teams: 27, and it costs less than nothing"),
+            (keeps, "teams: 27 for a resize to the present size"),
+            (rewrite, "teams: 27 for a rewrite"),
+            (passed > MOST as i64, "teams: 27, and the sum is above 2^32 - 1"),
+            (passed <= own.share as i64, "teams: 27 within the share"),
+            (due_28 && !due_25, "teams: 27, and 28 is due too"),
+            (due_25 && !due_28, "teams: 27, and 25 is due too"),
+            (due_28 && due_25, "teams: 27, and 28 and 25 are due too"),
+        ]),
+        "err 28" => of(&[
+            (free + 1 == left, "teams: 28, by one byte"),
+            (cost == 0, "teams: 28, and it costs nothing"),
+            (cost < 0, "teams: 28, and it costs less than nothing"),
+            (keeps, "teams: 28 for a resize to the present size"),
+            (rewrite, "teams: 28 for a rewrite"),
+            (free_before >= left, "teams: 28, and the free bytes of before would do"),
+            (unclipped <= free as i64, "teams: 28, and less for who took more than the share"),
+            (left > MOST, "teams: 28, and the remainders are above 2^32 - 1 together"),
+            (passed <= own.share as i64, "teams: 28 within the share"),
+            (due_25, "teams: 28, and 25 is due too"),
+        ]),
+        "err 25" => of(&[
+            (own.edits == MOST && !others().any(full), "teams: 25 for the own count alone"),
+            (free == left, "teams: 25, and free bytes are just the remainders"),
+        ]),
+        _ if expected.starts_with("ok") => of(&[
+            (place == 0, "teams: accepted, team 0"),
+            (place == 15, "teams: accepted, team 15"),
+            (passed == own.limit as i64, "teams: accepted, up to the limit exactly"),
+            (passed == own.share as i64, "teams: accepted, up to the share exactly"),
+            (passed > own.share as i64, "teams: accepted, past the share"),
+            (left > 0 && free == left, "teams: accepted, free bytes just the remainders"),
+            (own_counts, "teams: accepted, and not with the own share"),
+            (free_before < left, "teams: accepted, and not by the free bytes of before"),
+            (others().any(full), "teams: accepted, another team's count is 2^32 - 1"),
+            (
+                others().any(|t| t.taken > t.share) && left > 0,
+                "teams: accepted, another team has taken more than its share",
+            ),
+            (own.taken > own.share, "teams: accepted, taken bytes above the share go in"),
+            (passed < 0, "teams: accepted, and the cost gives back more than is taken"),
+            (cost < 0 && passed == 0, "teams: accepted, and the cost gives back just all"),
+            (cost < 0 && passed > 0, "teams: accepted, and the cost gives back some"),
+            (own.taken > 0 && cost == 0, "teams: accepted, costs nothing and something is taken"),
+        ]),
+        _ => of(&[
+            (due_27 && expected == "err 26", "teams: 27 due, and 26 comes first"),
+            (due_27 && expected == "err 21", "teams: 27 due, and 21 comes first"),
+            (due_27 && expected == "err 9", "teams: 27 due, and 9 comes first"),
+            (due_28 && expected == "err 26", "teams: 28 due, and 26 comes first"),
+            (due_28 && expected == "err 21", "teams: 28 due, and 21 comes first"),
+            (due_28 && expected == "err 9", "teams: 28 due, and 9 comes first"),
+            (
+                due_27 && due_28 && !matches!(expected, "err 9" | "err 21" | "err 26"),
+                "teams: 27 and 28 due, and a number of 12 to 20 comes first",
+            ),
+        ]),
+    });
+    met
+}
+
+/// What stands out about a turn in a list that began with shares within the free bytes.
+pub fn of_turn(tree: &Tree, call: &Call, account: &Account, answer: &str) -> Vec<&'static str> {
+    let Account { record, team } = account;
+    let Some(own) = record.teams.get(*team as usize) else {
+        return vec!["turns: a team above 15"];
+    };
+    let Some(after) = used_after(tree, call) else { return vec!["turns: no plan"] };
+    let passed = own.taken as i64 + after as i64 - tree.used() as i64;
+    let (within, accepted) = (passed <= own.share as i64, answer.starts_with("ok"));
+    let waiting = record.left_to_others(*team as usize) > 0;
+    of(&[
+        (within && accepted && waiting, "turns: accepted within the share, and others wait"),
+        (
+            accepted && waiting && own.share > 0 && passed == own.share as i64,
+            "turns: accepted up to the share exactly, and others wait",
+        ),
+        (!within && accepted && waiting, "turns: accepted past the share, and others wait"),
+        (within && !accepted && answer != "err 27", "turns: refused within the share, not by 27"),
+        (answer == "err 27", "turns: 27"),
+        (answer == "err 28", "turns: 28"),
+        (accepted && passed < 0, "turns: the cost gives back more than is taken"),
+        (own.taken > own.share, "turns: a team that has taken more than its share"),
     ])
 }
 

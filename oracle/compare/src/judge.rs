@@ -3,7 +3,7 @@
 
 use crate::calls::{Call, hex, unhex};
 use crate::codec::Codec;
-use crate::rules::{self, Bound, Entry, Record, Refusal, Tree, word};
+use crate::rules::{self, Bound, Change, Entry, Record, Refusal, TEAMS, Tree, word};
 use std::fmt::Write as _;
 
 /// The entries of docs/DIFFERENCES.md that a comparison can meet.
@@ -37,10 +37,11 @@ pub enum Class {
     ProgramEdits,
     LongClip,
     Totals,
+    Teams,
     Maximum,
 }
 
-pub const CLASSES: [(Class, &str); 28] = [
+pub const CLASSES: [(Class, &str); 29] = [
     (Class::NameWithoutZero, "Game name without a zero byte"),
     (Class::NameBehindZero, "Game name with bytes behind its first zero byte"),
     (Class::Bounds, "FST offset below 0x440; image shorter than the disc end"),
@@ -81,8 +82,20 @@ pub const CLASSES: [(Class, &str); 28] = [
     (Class::ProgramEdits, "Edits that would take some of a program behind the table"),
     (Class::LongClip, "A clip above 2^32 - 1 bytes"),
     (Class::Totals, "A record whose used bytes or edit count would leave 0 to 2^32 - 1"),
+    (
+        Class::Teams,
+        "A team above 15, one that would pass its limit, or one that leaves less free than the \
+         other teams' shares",
+    ),
     (Class::Maximum, "A new table above the stated maximum"),
 ];
+
+/// What an edit takes beside its arguments: a record, and the team that it carries.
+#[derive(Clone, Copy, Debug)]
+pub struct Account {
+    pub record: Record,
+    pub team: u32,
+}
 
 /// A call and what it is made on.
 pub struct Given<'a> {
@@ -92,8 +105,8 @@ pub struct Given<'a> {
     pub call: &'a Call,
     pub words: usize,
     pub bytes: usize,
-    /// What an edit takes; none: a fresh one of the image, which never meets 25.
-    pub record: Option<Record>,
+    /// What an edit takes; none: a fresh record of the image, which meets neither 27, 28 nor 25.
+    pub account: Option<Account>,
     pub codec: &'a Codec,
     /// The entry for the image's names, if some do not come back.
     pub others: Option<Class>,
@@ -401,14 +414,29 @@ pub fn used_after(tree: &Tree, call: &Call) -> Option<u64> {
     Some(table_end + regions.iter().map(|(_, size)| size).sum::<u64>())
 }
 
-/// What an edit that is accepted but for its record makes of it; none is 25.
-pub fn record_after(tree: &Tree, call: &Call, record: Record) -> Result<Option<Record>, String> {
+/// What an edit that is accepted but for its record does to the image.
+fn change(tree: &Tree, call: &Call) -> Result<Change, String> {
     let (table_end, regions) =
         regions_after(tree, call).ok_or("accepted, and there is no place")?;
-    let used = used_after(tree, call).unwrap();
+    let after = used_after(tree, call).unwrap();
     let free =
         rules::free(regions, table_end, tree.disc_end).map_err(|_| "accepted over a file")?;
-    Ok(record.moved(tree.used(), used, rules::largest(&free)))
+    let largest = rules::largest(&free);
+    let free = free.iter().map(|(_, size)| size).sum();
+    Ok(Change { before: tree.used(), after, free, largest })
+}
+
+/// What such an edit makes of its record, or the number that it is refused with.
+pub fn record_after(
+    tree: &Tree,
+    call: &Call,
+    account: Account,
+) -> Result<Result<Record, u32>, String> {
+    let team = account.team as usize;
+    if team >= TEAMS {
+        return Ok(Err(15));
+    }
+    Ok(account.record.moved(team, change(tree, call)?))
 }
 
 /// A growth that finds another place, on an image with a program behind its table: the original
@@ -586,9 +614,9 @@ fn regions_of(told: &str) -> Regions {
 }
 
 /// The record that is made of an image with these free regions: what is not free is used.
-fn record_by(regions: &Regions, disc_end: u64) -> String {
+fn record_by(regions: &Regions, disc_end: u64, limits: &[u32], shares: &[u32]) -> String {
     let used = disc_end - regions.iter().map(|(_, size)| size).sum::<u64>();
-    format!("ok {}", Record { used, largest: rules::largest(regions), edits: 0 })
+    format!("ok {}", Record::made(used, rules::largest(regions), limits, shares))
 }
 
 /// What the original says of free space, on an image with a program behind its table, which it
@@ -609,14 +637,14 @@ fn judge_space(
         Ok(Some(Verdict { expected, class }))
     };
     match given.call {
-        Call::Free | Call::MakeRecord => {
+        Call::Free | Call::MakeRecord(..) => {
             let regions = without(regions_of(told), program)?;
             if regions != tree.free {
                 return Err("the original's free list without the program".into());
             }
-            if *given.call == Call::MakeRecord {
-                let [theirs, expected] =
-                    [&regions_of(told), &regions].map(|r| record_by(r, tree.disc_end));
+            if let Call::MakeRecord(limits, shares) = given.call {
+                let [theirs, expected] = [&regions_of(told), &regions]
+                    .map(|r| record_by(r, tree.disc_end, limits, shares));
                 let class = (expected != theirs).then_some(Class::ProgramFree);
                 return Ok(Some(Verdict { expected, class }));
             }
@@ -697,12 +725,15 @@ fn judge_look(tree: &Tree, given: &Given, answer: &str) -> Result<Verdict, Strin
     {
         return Ok(verdict);
     }
-    if *given.call == Call::MakeRecord && told.starts_with("ok") {
+    if let Call::MakeRecord(limits, shares) = given.call
+        && told.starts_with("ok")
+    {
         let regions = regions_of(&told);
         if regions != tree.free {
             return Err("the original's free list".into());
         }
-        return Ok(Verdict { expected: record_by(&regions, tree.disc_end), class: None });
+        let expected = record_by(&regions, tree.disc_end, limits, shares);
+        return Ok(Verdict { expected, class: None });
     }
     Ok(Verdict { expected: told, class: None })
 }
@@ -721,7 +752,7 @@ fn above_maximum(tree: &Tree, call: &Call) -> bool {
 }
 
 /// `answer`: the original's; `twin`: its answer to the call's twin, if it has one. 26 comes just
-/// before the table's 21, and 25 last.
+/// before the table's 21, and 27, 28 and 25 last.
 pub fn judge(given: &Given, answer: &str, twin: Option<&str>) -> Result<Verdict, String> {
     let verdict = judge_call(given, answer, twin)?;
     if let Ok(tree) = given.opened
@@ -730,11 +761,12 @@ pub fn judge(given: &Given, answer: &str, twin: Option<&str>) -> Result<Verdict,
     {
         return Ok(Verdict { expected: refused(26), class: Some(Class::Maximum) });
     }
-    if let (Some(record), Ok(tree)) = (given.record, given.opened)
+    if let (Some(account), Ok(tree)) = (given.account, given.opened)
         && verdict.expected.starts_with("ok")
-        && record_after(tree, given.call, record)?.is_none()
+        && let Err(number) = record_after(tree, given.call, account)?
     {
-        return Ok(Verdict { expected: refused(25), class: Some(Class::Totals) });
+        let class = if number == 25 { Class::Totals } else { Class::Teams };
+        return Ok(Verdict { expected: refused(number), class: Some(class) });
     }
     Ok(verdict)
 }
@@ -778,6 +810,11 @@ fn judge_call(given: &Given, answer: &str, twin: Option<&str>) -> Result<Verdict
         // The original has no names to be asked with in their place.
         let class = (told != "ok").then_some(class);
         return Ok(Verdict { expected: "ok".into(), class });
+    }
+    if given.account.is_some_and(|account| account.team as usize >= TEAMS) {
+        let expected = refused(15);
+        let class = (told != expected).then_some(Class::Teams);
+        return Ok(Verdict { expected, class });
     }
     let path = matches!(given.call, Call::Lookup(..) | Call::MakeDirectories(..));
     if path && given.call.text().unwrap().len() > rules::PATH {

@@ -3,7 +3,7 @@
 //! through the list.
 
 use crate::calls::Call;
-use crate::rules::{self, Record, Tree};
+use crate::rules::{self, Record, TEAMS, Tree};
 
 struct Entry {
     directory: bool,
@@ -31,6 +31,9 @@ pub struct Ledger {
     pub first: Vec<u8>,
     /// The accepted calls, as lines.
     pub accepted: Vec<String>,
+    /// What each team has taken, by the used bytes of the images alone, and its accepted calls.
+    teams: [(u64, u64); TEAMS],
+    used: u64,
 }
 
 impl Ledger {
@@ -49,7 +52,8 @@ impl Ledger {
             Entry { directory, name, depth, file }
         };
         let entries = (0..tree.entries.len()).map(entry).collect();
-        Self { entries, first: image.to_vec(), accepted: vec![] }
+        let (first, accepted, teams) = (image.to_vec(), vec![], [(0, 0); TEAMS]);
+        Self { entries, first, accepted, teams, used: tree.used() }
     }
 
     /// The number behind the last entry below this one.
@@ -111,6 +115,16 @@ impl Ledger {
         }
     }
 
+    /// The call before carried this team, and left so many bytes used.
+    pub fn charge(&mut self, team: Option<u32>, used: u64) {
+        if let Some(team) = team {
+            let (taken, edits) = &mut self.teams[team as usize];
+            *taken = (*taken + used).saturating_sub(self.used);
+            *edits += 1;
+        }
+        self.used = used;
+    }
+
     /// The clip is what the file starts with.
     fn fill(&mut self, number: u32, clip: Vec<u8>) {
         let file = &mut self.entries[number as usize].file;
@@ -147,8 +161,13 @@ impl Ledger {
     /// What is wrong with a record that was made at opening and went through every edit of the
     /// list.
     pub fn wrong_record(&self, tree: &Tree, record: Option<Record>) -> Option<&'static str> {
-        let afresh = Record { edits: self.accepted.len() as u64, ..Record::of(tree) };
-        record.is_some_and(|record| record != afresh).then_some("the record after a list of edits")
+        let record = record?;
+        let afresh = Record::of(tree, &[], &[]);
+        if (record.used, record.largest) != (afresh.used, afresh.largest) {
+            return Some("the record's used bytes or largest region after a list of edits");
+        }
+        let held = record.teams.map(|team| (team.taken, team.edits));
+        (held != self.teams).then_some("what the teams have taken, or their counts, after a list")
     }
 
     pub fn features(&self) -> Vec<&'static str> {

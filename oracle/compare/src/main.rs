@@ -19,6 +19,7 @@ mod rules;
 mod run;
 mod sample;
 mod suites;
+mod teams;
 mod wish_rules;
 mod wishes;
 
@@ -28,9 +29,9 @@ use sample::Sample;
 use std::process::exit;
 use std::time::Instant;
 
-const SUITES: [&str; 11] = [
-    "limits", "numbers", "fills", "records", "maxima", "programs", "names", "tables", "trees",
-    "wishes", "random",
+const SUITES: [&str; 12] = [
+    "limits", "numbers", "fills", "records", "teams", "maxima", "programs", "names", "tables",
+    "trees", "wishes", "random",
 ];
 
 struct Options {
@@ -189,6 +190,7 @@ fn main() {
             "numbers" => suites::numbers(&mut run),
             "fills" => suites::fills(&mut run),
             "records" => records::records(&mut run),
+            "teams" => teams::teams(&mut run, options.seed, options.images),
             "maxima" => maxima::maxima(&mut run),
             "programs" => programs::programs(&mut run),
             "names" => names::names(&mut run),

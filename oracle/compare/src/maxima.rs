@@ -4,8 +4,8 @@ use crate::calls::{Call, any_number};
 use crate::judge::New;
 use crate::masters::{chain, crowd};
 use crate::random::Random;
-use crate::records::{edits, images};
-use crate::rules::{self, MAXIMUM, Record, Tree, set_word, word};
+use crate::records::{edits, images, with_count};
+use crate::rules::{self, MAXIMUM, MOST, Tree, set_word, word};
 use crate::run::Run;
 use crate::suites::clip;
 
@@ -69,8 +69,9 @@ fn every_maximum(run: &mut Run) {
         let edits = edits(&tree);
         let sizes = edits.iter().filter_map(|call| size(&tree, call));
         let most = sizes.max().unwrap().max(tree.fst_size) as u32;
-        let full = Record { used: tree.used(), largest: 0, edits: u32::MAX as u64 };
-        let mut calls = vec![Call::Open, Call::Header, Call::Listing, Call::MakeRecord]
+        let full = with_count(tree.used(), 0, MOST);
+        let made = Call::MakeRecord(vec![], vec![]);
+        let mut calls = vec![Call::Open, Call::Header, Call::Listing, made]
             .into_iter()
             .map(|call| (call, 64, 0, None))
             .collect::<Vec<_>>();

@@ -1,22 +1,26 @@
 //! Records that edits take: such that 25 is just due or just not.
 
 use crate::calls::{Call, any_number};
-use crate::judge::used_after;
+use crate::judge::{Account, used_after};
 use crate::random::Random;
-use crate::rules::{self, Record, Tree, set_word};
+use crate::rules::{self, MOST, Record, TEAMS, Team, Tree, set_word};
 use crate::run::Run;
 use crate::suites::{clip, nested_master, other_master, small_master};
 
-const MOST: u64 = u32::MAX as u64;
+/// The team that these edits carry.
+const TEAM: usize = 3;
 
-/// Any numbers, often the outermost.
-pub fn any(r: &mut Random) -> Record {
-    let mut number = || any_number(r) as u64;
-    Record { used: number(), largest: number(), edits: number() }
+/// A record with this count for the team that the edits carry, which may take all that there is; the
+/// other teams, whose counts play no part, are at the last.
+pub fn with_count(used: u64, largest: u64, edits: u64) -> Account {
+    let other = Team { edits: MOST, ..Team::default() };
+    let mut teams = [other; TEAMS];
+    teams[TEAM] = Team { limit: MOST, edits, ..Team::default() };
+    Account { record: Record { used, largest, teams }, team: TEAM as u32 }
 }
 
 /// Used bytes that an edit which changes them by `change` moves to 0 or to 2^32 - 1, or one byte past.
-fn around(change: i64) -> [u64; 4] {
+pub fn around(change: i64) -> [u64; 4] {
     let by = change.unsigned_abs().min(MOST);
     match change {
         0 => [0, 1, MOST - 1, MOST],
@@ -25,12 +29,12 @@ fn around(change: i64) -> [u64; 4] {
     }
 }
 
-fn change(tree: &Tree, call: &Call) -> i64 {
+pub fn change(tree: &Tree, call: &Call) -> i64 {
     used_after(tree, call).map_or(0, |after| after as i64 - tree.used() as i64)
 }
 
 /// A record for this edit.
-pub fn beside(r: &mut Random, tree: &Tree, call: &Call) -> Record {
+pub fn beside(r: &mut Random, tree: &Tree, call: &Call) -> Account {
     let used = match r.below(8) {
         0 => tree.used(),
         1 => any_number(r) as u64,
@@ -42,7 +46,7 @@ pub fn beside(r: &mut Random, tree: &Tree, call: &Call) -> Record {
         2 => any_number(r) as u64,
         _ => r.below(20) as u64,
     };
-    Record { used, largest: any_number(r) as u64, edits }
+    with_count(used, any_number(r) as u64, edits)
 }
 
 /// Images with room behind the table and without, with slack and shared names in the texts, with a
@@ -111,20 +115,20 @@ pub fn records(run: &mut Run) {
     for image in images() {
         let tree = rules::open(&image, usize::MAX).unwrap();
         let (least, table) = (4 * (tree.entries.len() + 2), 12 * tree.entries.len() + tree.texts());
-        let mut calls = vec![(Call::MakeRecord, 64, 0, None)];
+        let mut calls = vec![(Call::MakeRecord(vec![], vec![]), 64, 0, None)];
         for call in edits(&tree) {
             let used = around(change(&tree, &call)).into_iter().chain([tree.used()]);
             for used in used {
                 for (edits, largest) in [(0, MOST), (MOST - 1, 0), (MOST, 7)] {
-                    let record = Some(Record { used, largest, edits });
-                    calls.push((call.clone(), 64, 0x400, record));
+                    let account = Some(with_count(used, largest, edits));
+                    calls.push((call.clone(), 64, 0x400, account));
                 }
             }
             for (words, bytes) in
                 [(least, table), (least, table - 1), (least, 0), (least - 1, table)]
             {
-                let record = Some(Record { used: MOST, largest: 0, edits: MOST });
-                calls.push((call.clone(), words, bytes, record));
+                let account = Some(with_count(MOST, 0, MOST));
+                calls.push((call.clone(), words, bytes, account));
             }
         }
         run.each_with(image, &calls);

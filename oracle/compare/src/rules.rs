@@ -3,7 +3,7 @@
 //! that a difference is sorted by what the rules say of its input and not by what either side
 //! answers.
 
-use std::fmt;
+use std::fmt::{self, Write as _};
 use std::ops::Range;
 
 pub const ENTRIES: usize = 16_384;
@@ -52,33 +52,128 @@ pub struct Tree {
     pub free: Vec<(u64, u64)>,
 }
 
-/// A totals record: used bytes, the largest free region, accepted edits.
+pub const TEAMS: usize = 16;
+/// The largest number of 32 bits.
+pub const MOST: u64 = u32::MAX as u64;
+
+/// What a record holds of a team.
+#[derive(Clone, Copy, Debug, Default, PartialEq, Eq)]
+pub struct Team {
+    pub limit: u64,
+    pub share: u64,
+    pub taken: u64,
+    pub edits: u64,
+}
+
+impl Team {
+    /// Of its share what it has not taken.
+    pub fn left(&self) -> u64 {
+        self.share.saturating_sub(self.taken)
+    }
+}
+
+/// A totals record: used bytes, the largest free region, and the teams.
 #[derive(Clone, Copy, Debug, PartialEq, Eq)]
 pub struct Record {
     pub used: u64,
     pub largest: u64,
-    pub edits: u64,
+    pub teams: [Team; TEAMS],
+}
+
+/// What an edit does to the image: used bytes before it, and used bytes, free bytes and the largest
+/// free region after it.
+#[derive(Clone, Copy, Debug)]
+pub struct Change {
+    pub before: u64,
+    pub after: u64,
+    pub free: u64,
+    pub largest: u64,
+}
+
+impl Change {
+    /// From one image to another.
+    pub fn between(before: &Tree, after: &Tree) -> Self {
+        let (free, largest) = (after.free_bytes(), largest(&after.free));
+        Self { before: before.used(), after: after.used(), free, largest }
+    }
+
+    pub fn cost(&self) -> i64 {
+        self.after as i64 - self.before as i64
+    }
 }
 
 impl Record {
-    /// Of an image, before any edit.
-    pub fn of(tree: &Tree) -> Self {
-        Self { used: tree.used(), largest: largest(&tree.free), edits: 0 }
+    /// Of an image, before any edit; teams that no limit or share is named for get 0.
+    pub fn of(tree: &Tree, limits: &[u32], shares: &[u32]) -> Self {
+        Self::made(tree.used(), largest(&tree.free), limits, shares)
     }
 
-    /// After an edit that leaves so many bytes used, and this largest free region. None is 25.
-    pub fn moved(self, before: u64, after: u64, largest: u64) -> Option<Self> {
-        let used = (self.used + after).checked_sub(before)?;
-        let edits = self.edits + 1;
-        let most = u32::MAX as u64;
-        (used <= most && edits <= most).then_some(Self { used, largest, edits })
+    pub fn made(used: u64, largest: u64, limits: &[u32], shares: &[u32]) -> Self {
+        let number = |list: &[u32], k: usize| list.get(k).map_or(0, |number| *number as u64);
+        let team =
+            |k| Team { limit: number(limits, k), share: number(shares, k), taken: 0, edits: 0 };
+        Self { used, largest, teams: std::array::from_fn(team) }
+    }
+
+    /// What the other teams have not taken of their shares.
+    pub fn left_to_others(&self, team: usize) -> u64 {
+        let others = self.teams.iter().enumerate().filter(|(k, _)| *k != team);
+        others.map(|(_, other)| other.left()).sum()
+    }
+
+    /// After an edit of this team, which all else accepts; or the number that it is refused with.
+    pub fn moved(mut self, team: usize, change: Change) -> Result<Self, u32> {
+        let own = self.teams[team];
+        let (taken, used) = (own.taken as i64 + change.cost(), self.used as i64 + change.cost());
+        if taken > own.limit as i64 {
+            return Err(27);
+        }
+        if change.free < self.left_to_others(team) {
+            return Err(28);
+        }
+        let used = u32::try_from(used).map_err(|_| 25u32)?;
+        if own.edits == MOST {
+            return Err(25);
+        }
+        (self.used, self.largest) = (used as u64, change.largest);
+        self.teams[team] = Team { taken: taken.max(0) as u64, edits: own.edits + 1, ..own };
+        Ok(self)
+    }
+
+    /// The words by which the probe is told it: teams at the end that hold nothing are left out.
+    pub fn words(&self) -> String {
+        let count = TEAMS - self.teams.iter().rev().take_while(|t| **t == Team::default()).count();
+        self.with(count)
+    }
+
+    fn with(&self, count: usize) -> String {
+        let mut words = format!("{} {}", self.used, self.largest);
+        for Team { limit, share, taken, edits } in &self.teams[..count] {
+            write!(words, " {limit}:{share}:{taken}:{edits}").unwrap();
+        }
+        words
+    }
+
+    /// The record that the probe tells.
+    pub fn told(answer: &str) -> Option<Self> {
+        let mut words = answer.strip_prefix("ok ")?.split(' ');
+        let mut number = || words.next()?.parse().ok();
+        let (used, largest) = (number()?, number()?);
+        let mut teams = [Team::default(); TEAMS];
+        for team in &mut teams {
+            let mut numbers = words.next()?.split(':').map(|number| number.parse().ok());
+            let mut number = || numbers.next()?;
+            let (limit, share, taken, edits) = (number()?, number()?, number()?, number()?);
+            *team = Team { limit, share, taken, edits };
+        }
+        Some(Self { used, largest, teams })
     }
 }
 
-/// The words of a record, as the probe takes and tells them.
+/// The words of a record, as the probe tells them.
 impl fmt::Display for Record {
     fn fmt(&self, f: &mut fmt::Formatter) -> fmt::Result {
-        write!(f, "{} {} {}", self.used, self.largest, self.edits)
+        f.write_str(&self.with(TEAMS))
     }
 }
 
@@ -410,6 +505,10 @@ impl Tree {
     pub fn used(&self) -> u64 {
         let files = self.entries.iter().filter(|e| !e.directory).map(|e| e.size as u64);
         self.table_end() + files.sum::<u64>() + self.behind().map_or(0, |(_, size)| size)
+    }
+
+    pub fn free_bytes(&self) -> u64 {
+        self.free.iter().map(|(_, size)| size).sum()
     }
 
     /// Texts of the table written anew.

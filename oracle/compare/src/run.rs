@@ -4,17 +4,20 @@
 use crate::calls::{self, Call, hex, unhex};
 use crate::child::{Side, batch};
 use crate::codec::{Codec, Mixed, Others, StandIns};
-use crate::features::{features, of_maximum, of_names, of_program, of_record, of_text};
+use crate::features::{
+    features, of_made, of_maximum, of_names, of_program, of_record, of_team, of_text, of_turn,
+};
 use crate::judge::{
-    Class, Given, New, Verdict, judge, keeps_size, listing_after, odd_name, record_after,
-    told_where,
+    Account, Class, Given, New, Verdict, judge, keeps_size, listing_after, odd_name, record_after,
+    told_where, used_after,
 };
 use crate::ledger::Ledger;
 use crate::masters;
 use crate::maxima;
 use crate::random::Random;
 use crate::records;
-use crate::rules::{self, MAXIMUM, Record, Refusal, Tree, set_word};
+use crate::rules::{self, Change, MAXIMUM, Record, Refusal, TEAMS, Tree, set_word};
+use crate::teams;
 use std::collections::BTreeMap;
 use std::fs;
 use std::path::{Path, PathBuf};
@@ -26,6 +29,10 @@ const WAVE: usize = 96;
 /// Calls that look at a random image, and edits of it.
 const LOOKS: usize = 14;
 const EDITS: usize = 11;
+
+/// Edits of a list by turns, and how often each is asked again, with another record and team.
+const TURNS: usize = 20;
+const AGAIN: usize = 3;
 
 /// Faults that are printed with a replay, and after which a run ends unless it is told to go on.
 pub const FAULTS: usize = 8;
@@ -85,6 +92,10 @@ pub struct Case {
     /// Whether a record is made at opening and handed on through the list, and what it holds.
     hands_on: bool,
     record: Option<Record>,
+    /// Whether it began with shares that are together within the free bytes.
+    fair: bool,
+    /// Whether the edits go by the record that is handed on.
+    by_turns: bool,
     /// Whether the table's maximum is near the table's size, and is stated anew between edits.
     states: bool,
     codec: Rc<Codec>,
@@ -116,6 +127,8 @@ impl Case {
             ledger: None,
             hands_on,
             record: None,
+            fair: false,
+            by_turns: false,
             states: false,
             codec,
             stand_ins,
@@ -231,10 +244,40 @@ impl Case {
         }
     }
 
-    /// The record that an edit in the list takes.
-    fn hand_on(&self) -> Option<Take> {
+    /// What an edit in the list takes: the record of the edit before it, or one that is made, and the
+    /// team whose turn it is.
+    fn hand_on(&mut self) -> Option<Take> {
         let tree = self.opened.as_ref().ok().filter(|_| self.hands_on)?;
-        Some(self.record.map_or(Take::Made(Record::of(tree)), Take::Set))
+        let record = self.record.unwrap_or_else(|| {
+            let (limits, shares) = teams::start(&mut self.aside, tree);
+            let record = Record::of(tree, &limits, &shares);
+            self.fair = record.left_to_others(TEAMS) <= tree.free_bytes();
+            record
+        });
+        let team = teams::turn(&mut self.aside, &record);
+        Some(Take { account: Account { record, team }, made: self.record.is_none() })
+    }
+
+    /// What is wrong with a list from a fair start after an edit that gave this answer and this record.
+    fn unfair(
+        &self,
+        before: &Tree,
+        asked: &Asked,
+        answer: &str,
+        told: &str,
+    ) -> Option<&'static str> {
+        let (Some(taken), Ok(after)) = (asked.taken, &self.opened) else { return None };
+        let Some(record) = Record::told(told) else { return Some("a record that is none") };
+        if record.left_to_others(TEAMS) > after.free_bytes() {
+            return Some("a fair list: free bytes below what all teams have left of their shares");
+        }
+        if record.teams.iter().any(|team| team.taken > team.limit) {
+            return Some("a fair list: a team that has taken more than its limit");
+        }
+        let cost = used_after(before, &asked.call)? as i64 - before.used() as i64;
+        let own = taken.account.record.teams.get(taken.account.team as usize)?;
+        (answer == "err 28" && own.taken as i64 + cost <= own.share as i64)
+            .then_some("a fair list: 28 for an edit within its share")
     }
 
     /// How much memory to lend for a call: often just enough, sometimes one too little.
@@ -276,17 +319,35 @@ impl Case {
     }
 }
 
-/// The record that an edit takes: made of the image as it is, or set. Either way it holds these numbers.
+/// What an edit takes: a record that is made of the image as it is, or set. Either way it holds these
+/// numbers.
 #[derive(Clone, Copy)]
-enum Take {
-    Made(Record),
-    Set(Record),
+struct Take {
+    account: Account,
+    made: bool,
+}
+
+impl Take {
+    fn set(account: Account) -> Self {
+        Self { account, made: false }
+    }
+
+    /// The command.
+    fn line(&self) -> String {
+        let record = &self.account.record;
+        if !self.made {
+            return format!("set_record {}", record.words());
+        }
+        let limits = record.teams.iter().map(|team| team.limit as u32).collect();
+        let shares = record.teams.iter().map(|team| team.share as u32).collect();
+        Call::MakeRecord(limits, shares).line()
+    }
 }
 
 /// What an edit took, and where in the batch the record is told, before it and behind it.
 #[derive(Clone, Copy)]
 struct Taken {
-    record: Record,
+    account: Account,
     made: bool,
     before: usize,
     after: usize,
@@ -384,19 +445,20 @@ impl Batch {
         take: Option<Take>,
         ample: usize,
     ) -> (usize, Option<Taken>) {
-        let taken = take.map(|take| match take {
-            Take::Made(record) => {
+        let taken = take.map(|take| {
+            if take.made {
                 self.probe(format!("lend {ample} 0"));
-                (record, true, self.probe(Call::MakeRecord.line()))
             }
-            Take::Set(record) => (record, false, self.probe(format!("set_record {record}"))),
+            let before = self.probe(take.line());
+            self.probe(format!("team {}", take.account.team));
+            (take, before)
         });
         self.probe(format!("lend {words} {bytes}"));
         let answer = self.probe(call.line());
-        let taken = taken.map(|(record, made, before)| {
+        let taken = taken.map(|(Take { account, made }, before)| {
             let after = self.probe("record".into());
             self.probe("drop_record".into());
-            Taken { record, made, before, after }
+            Taken { account, made, before, after }
         });
         (answer, taken)
     }
@@ -490,6 +552,37 @@ impl Run {
         self.carry_on(&mut cases);
     }
 
+    /// `images` masters, each with a list of edits by turns.
+    pub fn by_turns(&mut self, seed: u64, images: u64) {
+        let (mut begun, mut waves) = (0, 0);
+        while begun < images && !self.over() {
+            let mut cases = vec![];
+            while cases.len() < WAVE && begun < images {
+                let mut r =
+                    Random::new(seed.wrapping_add(begun.wrapping_mul(0x5851_f42d_4c95_7f2d)));
+                let image = masters::master(&mut r);
+                let case = Case::new(r, image, format!("c{}a", cases.len()), &self.codec);
+                begun += 1;
+                if case.mixed.is_none() && case.opened.is_ok() {
+                    let case = Case { hands_on: true, by_turns: true, ..case };
+                    cases.push(case.with_maximum().with_ledger());
+                }
+            }
+            self.looks(&mut cases, 1);
+            for _ in 0..TURNS {
+                if self.over() {
+                    return;
+                }
+                self.edits(&mut cases);
+            }
+            self.ledgers(&cases);
+            waves += 1;
+            if waves % 20 == 0 {
+                eprintln!("{begun} images, {} calls", self.counts.total());
+            }
+        }
+    }
+
     /// Calls that look at each image, and a list of edits of each that opens.
     fn carry_on(&mut self, cases: &mut [Case]) {
         self.looks(cases, LOOKS);
@@ -541,7 +634,8 @@ impl Run {
             }
             if case.aside.chance(50) {
                 std::mem::swap(&mut case.r, &mut case.aside);
-                asked.push(ask_look(&mut lines, i, case, Call::MakeRecord));
+                let (limits, shares) = teams::lists(&mut case.r);
+                asked.push(ask_look(&mut lines, i, case, Call::MakeRecord(limits, shares)));
                 std::mem::swap(&mut case.r, &mut case.aside);
             }
         }
@@ -561,17 +655,32 @@ impl Run {
     fn edits(&mut self, cases: &mut [Case]) {
         let (mut lines, mut asked) = (Batch::default(), vec![]);
         for (i, case) in cases.iter_mut().enumerate() {
+            if case.opened.is_err() {
+                continue;
+            }
+            let take = case.hand_on();
             let Ok(tree) = &case.opened else { continue };
-            let call = match case.r.below(11) {
-                0 | 1 => calls::fill(&mut case.r, tree, case.image.len()),
-                _ => calls::edit(&mut case.r, tree, self.inserts),
+            let call = match &take {
+                Some(take) if case.by_turns => {
+                    teams::edit(&mut case.r, tree, &take.account, case.image.len(), self.inserts)
+                }
+                _ => match case.r.below(11) {
+                    0 | 1 => calls::fill(&mut case.r, tree, case.image.len()),
+                    _ => calls::edit(&mut case.r, tree, self.inserts),
+                },
             };
             if case.states && case.aside.chance(40) {
                 case.state_for(&mut lines, &call);
             }
-            let edit = ask_edit(&mut lines, i, case, call);
-            // The same once more, with a record for which 25 is just due or just not.
-            asked.extend(case.aside.chance(15).then(|| ask_again(&mut lines, case, &edit)));
+            let memory = case.lend(&call);
+            let ample = case.by_turns && case.aside.chance(80);
+            let memory = if ample { (0x4000, 0x4000) } else { memory };
+            let edit = ask_edit_with(&mut lines, i, case, call, memory.into(), take);
+            // The same once more, with a record for which 27, 28 or 25 is just due or just not.
+            let again = if case.by_turns { AGAIN } else { usize::from(case.aside.chance(15)) };
+            for _ in 0..again {
+                asked.push(ask_again(&mut lines, case, &edit));
+            }
             asked.push(edit);
         }
         if asked.is_empty() {
@@ -583,21 +692,36 @@ impl Run {
                 continue;
             }
             let (case, accepted) = (&mut cases[asked.case], probe[asked.probe].starts_with("ok"));
-            if let (Some(taken), Ok(tree)) = (asked.taken, &case.opened) {
-                let moved = || record_after(tree, &asked.call, taken.record).ok().flatten();
-                case.record = if accepted { moved() } else { Some(taken.record) };
+            let Ok(before) = case.opened.clone() else { continue };
+            if let Some(taken) = asked.taken {
+                let moved = || record_after(&before, &asked.call, taken.account).ok()?.ok();
+                case.record = if accepted { moved() } else { Some(taken.account.record) };
             }
             if accepted {
                 self.counts.states += 1;
                 (case.image, case.opened) = case.edited(&probe[asked.peek]);
                 case.name = other(&case.name);
                 case.find_others();
-                if let Some(ledger) = &mut case.ledger {
+                if let (Some(ledger), Ok(after)) = (&mut case.ledger, &case.opened) {
                     ledger.accept(&asked.call);
+                    ledger.charge(asked.taken.map(|taken| taken.account.team), after.used());
                 }
                 if case.opened.is_err() {
                     let what = "an accepted edit left an image that does not open";
                     self.fault(what, &[], &asked.call.line(), "", "", "");
+                }
+            }
+            let Some(taken) = asked.taken.filter(|_| case.fair) else { continue };
+            let told = &probe[taken.after];
+            match case.unfair(&before, asked, &probe[asked.probe], told) {
+                None => {
+                    self.met(of_turn(&before, &asked.call, &taken.account, &probe[asked.probe]))
+                }
+                Some(what) => {
+                    let account = taken.account;
+                    let line = format!("set_record {}", account.record.words());
+                    let lines = [line, format!("team {}", account.team)];
+                    self.fault(what, &lines, &asked.call.line(), "", told, "");
                 }
             }
         }
@@ -616,10 +740,10 @@ impl Run {
                     (lines.probe(format!("peek {at} {}", bytes.len())), bytes)
                 })
                 .collect();
-            asked.push((tree, ledger, case.record, peeks));
+            asked.push((tree, ledger, case.record, case.fair, peeks));
         }
         let (probe, _) = self.ask(&lines);
-        for (tree, ledger, record, peeks) in asked {
+        for (tree, ledger, record, fair, peeks) in asked {
             let lost = peeks.iter().any(|(at, bytes)| probe[*at] != format!("ok {}", hex(bytes)));
             let wrong = ledger.wrong(tree).or(lost.then_some("the ledger: a file's first bytes"));
             match wrong.or(ledger.wrong_record(tree, record)) {
@@ -627,6 +751,9 @@ impl Run {
                     self.met(ledger.features());
                     if record.is_some() {
                         self.met(vec!["record: made at opening, and held to the list of edits"]);
+                    }
+                    if fair {
+                        self.met(vec!["teams: lists from a fair start"]);
                     }
                 }
                 Some(what) => {
@@ -649,8 +776,12 @@ impl Run {
                 let opened = case.opened_with(asked.words);
                 if let Some(taken) = &asked.taken {
                     let tree = opened.as_ref().ok();
-                    let expected = &verdict.expected;
-                    self.met(of_record(tree, &asked.call, taken.record, taken.made, expected));
+                    let (account, expected) = (&taken.account, &verdict.expected);
+                    self.met(of_record(tree, &asked.call, account, taken.made, expected));
+                    self.met(of_team(tree, &asked.call, account, expected));
+                }
+                if let (Call::MakeRecord(limits, shares), Ok(tree)) = (&asked.call, &opened) {
+                    self.met(of_made(tree, limits, shares));
                 }
                 if asked.again {
                     return true;
@@ -775,7 +906,10 @@ impl Run {
         }
         let mut lines = image_lines(&image);
         lines.push(format!("lend {} {}", asked.words, asked.bytes));
-        lines.extend(asked.taken.map(|taken| format!("set_record {}", taken.record)));
+        if let Some(Taken { account, .. }) = asked.taken {
+            lines.push(format!("set_record {}", account.record.words()));
+            lines.push(format!("team {}", account.team));
+        }
         lines
     }
 
@@ -785,7 +919,7 @@ impl Run {
         let mut lines = Batch::default();
         case.load(&mut lines, &self.place.join("shrink"));
         let (call, memory) = (asked.call.clone(), [asked.words, asked.bytes]);
-        let take = asked.taken.map(|taken| Take::Set(taken.record));
+        let take = asked.taken.map(|taken| Take::set(taken.account));
         let asked = if call.edits() && case.opened.is_ok() {
             ask_edit_with(&mut lines, 0, &mut case, call, memory, take)
         } else {
@@ -810,7 +944,7 @@ impl Run {
     }
 
     /// The same with records that the edits take.
-    pub fn each_with(&mut self, image: Vec<u8>, calls: &[(Call, usize, usize, Option<Record>)]) {
+    pub fn each_with(&mut self, image: Vec<u8>, calls: &[(Call, usize, usize, Option<Account>)]) {
         self.counts.images += 1;
         self.counts.refused_images += u64::from(rules::open(&image, usize::MAX).is_err());
         for part in calls.chunks(512) {
@@ -818,8 +952,8 @@ impl Run {
             assert!(case.mixed.is_none(), "an image that the original can only be asked to open");
             let (mut lines, mut asked) = (Batch::default(), vec![]);
             case.load(&mut lines, &self.place.join("each"));
-            for (call, words, bytes, record) in part {
-                let (call, memory, take) = (call.clone(), [*words, *bytes], record.map(Take::Set));
+            for (call, words, bytes, account) in part {
+                let (call, memory, take) = (call.clone(), [*words, *bytes], account.map(Take::set));
                 if call.edits() && case.opened.is_ok() {
                     asked.push(ask_edit_with(&mut lines, 0, &mut case, call, memory, take));
                 } else {
@@ -921,9 +1055,9 @@ fn trouble(
     let (words, bytes) = (asked.words, asked.bytes);
     let others = case.others.as_ref().map(|others| others.class).or(case.mixed);
     let (call, codec) = (&asked.call, &*case.codec);
-    let record = asked.taken.map(|taken| taken.record);
+    let account = asked.taken.map(|taken| taken.account);
     let image = &case.image;
-    let given = Given { image, opened: &opened, call, words, bytes, record, codec, others };
+    let given = Given { image, opened: &opened, call, words, bytes, account, codec, others };
     let twin = asked.twin.map(|at| case.back(call, &oracle[at]));
     let verdict = judge(&given, &oracle[asked.oracle], twin.as_deref())
         .map_err(|what| (format!("on no list: {what}"), String::new()))?;
@@ -932,12 +1066,12 @@ fn trouble(
         return wrong("Counter's answer");
     }
     let accepted = verdict.expected.starts_with("ok");
-    let moved = match (&opened, record) {
-        (Ok(tree), Some(record)) if accepted => record_after(tree, call, record).unwrap(),
-        _ => record,
+    let moved = match (&opened, account) {
+        (Ok(tree), Some(account)) if accepted => record_after(tree, call, account).unwrap().ok(),
+        _ => account.map(|account| account.record),
     };
     if let (Some(taken), Some(moved)) = (&asked.taken, moved) {
-        if probe[taken.before] != format!("ok {}", taken.record) {
+        if probe[taken.before] != format!("ok {}", taken.account.record) {
             return wrong("the record before an edit");
         }
         if probe[taken.after] != format!("ok {moved}") {
@@ -969,8 +1103,8 @@ fn trouble(
         return wrong("the stated maximum and the table afterwards");
     }
     // What the sums say of the new image, and what it says itself.
-    if let (Ok(tree), Some(moved), Some(record)) = (&opened, moved, record)
-        && record.moved(tree.used(), after.used(), rules::largest(&after.free)) != Some(moved)
+    if let (Ok(tree), Some(moved), Some(Account { record, team })) = (&opened, moved, account)
+        && record.moved(team as usize, Change::between(tree, &after)) != Ok(moved)
     {
         return wrong("the record and the image afterwards");
     }
@@ -1054,8 +1188,8 @@ fn edit_of_refused(r: &mut Random, inserts: bool) -> Call {
 fn ask_look(lines: &mut Batch, i: usize, case: &mut Case, call: Call) -> Asked {
     let (words, bytes) = case.lend(&call);
     // No edit of an image that does not open alters a record.
-    let take = (call.edits() && case.hands_on).then(|| records::any(&mut case.aside));
-    ask_look_with(lines, i, case, call, [words, bytes], take.map(Take::Set))
+    let account = (call.edits() && case.hands_on).then(|| teams::any(&mut case.aside));
+    ask_look_with(lines, i, case, call, [words, bytes], account.map(Take::set))
 }
 
 fn ask_look_with(
@@ -1067,7 +1201,7 @@ fn ask_look_with(
     take: Option<Take>,
 ) -> Asked {
     let (probe, taken) = lines.ask(&call, memory, take, 0);
-    if call == Call::MakeRecord {
+    if let Call::MakeRecord(..) = call {
         lines.probe("drop_record".into());
     }
     if let Some(others) = &case.others {
@@ -1082,29 +1216,26 @@ fn ask_look_with(
     Asked { taken, ..Asked::new(i, call, memory, [probe, oracle], twin) }
 }
 
-fn ask_edit(lines: &mut Batch, i: usize, case: &mut Case, call: Call) -> Asked {
-    let (words, bytes) = case.lend(&call);
-    let take = case.hand_on();
-    ask_edit_with(lines, i, case, call, [words, bytes], take)
-}
-
-/// The edit `asked` once more, with a record at the boundaries of 25. The original's answers are those
-/// to `asked`, and so is the new image, if both are accepted.
+/// The edit `asked` once more, with a record at the boundaries of 27, 28 and 25. The original's answers
+/// are those to `asked`, and so is its new image.
 fn ask_again(lines: &mut Batch, case: &mut Case, asked: &Asked) -> Asked {
     let (call, memory) = (asked.call.clone(), [asked.words, asked.bytes]);
-    let record = match &case.opened {
-        Ok(tree) => records::beside(&mut case.aside, tree, &call),
-        Err(_) => records::any(&mut case.aside),
+    let account = match &case.opened {
+        Ok(tree) if case.aside.chance(20) => records::beside(&mut case.aside, tree, &call),
+        Ok(tree) => teams::beside(&mut case.aside, tree, &call),
+        Err(_) => teams::any(&mut case.aside),
     };
     lines.probe(format!("load {}", case.name));
-    let (probe, taken) = lines.ask(&call, memory, Some(Take::Set(record)), 0);
+    let (probe, taken) = lines.ask(&call, memory, Some(Take::set(account)), 0);
     let hashes =
         asked.hashes.map(|(_, theirs, repaired)| (lines.probe("hash".into()), theirs, repaired));
     let whole = asked
         .whole
         .map(|(_, theirs)| (lines.probe(format!("peek 0 {}", case.image.len())), theirs));
+    // The other edit may be refused where this one is not.
+    let peek = lines.probe(lines.probe[asked.peek].clone());
     let again = Asked::new(asked.case, call, memory, [probe, asked.oracle], asked.twin);
-    Asked { taken, again: true, hashes, whole, peek: asked.peek, ..again }
+    Asked { taken, again: true, hashes, whole, peek, ..again }
 }
 
 fn ask_edit_with(

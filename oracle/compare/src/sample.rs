@@ -242,8 +242,8 @@ impl Sample {
         };
         let (words, bytes, _) = self.lent;
         let (image, codec, others) = (&self.image[..], &self.codec, None);
-        let record = None;
-        let given = Given { image, opened: &opened, call, words, bytes, record, codec, others };
+        let account = None;
+        let given = Given { image, opened: &opened, call, words, bytes, account, codec, others };
         let verdict = judge(&given, &answer, twin.as_deref()).ok()?;
         Some(verdict.expected)
     }

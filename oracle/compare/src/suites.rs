@@ -303,7 +303,8 @@ fn open_tables(run: &mut Run, base: &[u8], tables: Vec<Vec<u8>>) {
 /// Calls at the limits: entries, texts, depth, memory.
 pub fn limits(run: &mut Run) {
     let up = Call::Lookup(0, b"..".to_vec());
-    let looks = [Call::Open, Call::Free, Call::Used, Call::Total, Call::MakeRecord, up];
+    let made = Call::MakeRecord(vec![u32::MAX; 16], vec![1; 16]);
+    let looks = [Call::Open, Call::Free, Call::Used, Call::Total, made, up];
     let edits = |run: &Run| {
         let mut edits = vec![Call::Rewrite];
         if run.inserts {
