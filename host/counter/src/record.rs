@@ -179,9 +179,13 @@ fn shown(args: &Args, kept: &Kept) -> Outcome<()> {
     say([account.line(None), table].concat().as_bytes())
 }
 
+/// Whether it begins as a record with teams does.
+fn has_teams(bytes: &[u8]) -> bool {
+    bytes.starts_with(SECOND.as_bytes())
+}
+
 /// Only a record is replaced, and only if that is wanted; one with teams by one with teams.
 fn may_be_replaced(kept: &Kept, args: &Args) -> Outcome<()> {
-    let has_teams = |bytes: &[u8]| bytes.starts_with(SECOND.as_bytes());
     let why = match &kept.bytes {
         None => return Ok(()),
         Some(bytes) if !account::begins(bytes) => "is there already, and is no record",
@@ -205,10 +209,16 @@ fn read(kept: &Kept) -> Outcome<Option<Account>> {
     let why = match Account::parse(bytes) {
         Ok(account) => return Ok(Some(account)),
         Err(_) if !account::begins(bytes) => "this is no record; name another file".into(),
-        Err(why) => format!(
-            "this record is torn, or of another version of counter: {why}. Take it away: then the edit makes a \
-             new one, which counts from 0 and has no teams"
-        ),
+        Err(why) => {
+            let anew = match has_teams(bytes) {
+                true => {
+                    "`counter record IMAGE --record FILE --teams LIST --force` makes a new one, in which no team has \
+                     taken anything"
+                }
+                false => "Take it away: then the edit makes a new one, which counts from 0",
+            };
+            format!("this record is torn, or of another version of counter: {why}. {anew}")
+        }
     };
     Err(Failure::error(DATA, format!("{file}: {why}. Nothing was written")))
 }

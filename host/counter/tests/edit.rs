@@ -5,7 +5,6 @@ mod support;
 use std::fs::{self, OpenOptions, Permissions};
 use std::os::unix::fs::PermissionsExt;
 use std::path::{Path, PathBuf};
-use std::process::Stdio;
 use support::*;
 
 fn small(temp: &Temp) -> PathBuf {
@@ -528,9 +527,9 @@ fn a_done_edit_whose_word_is_not_heard_is_still_done() {
     // A pipe that nobody reads.
     let mut command = program();
     command.arg("move").arg(&image).args(["a", "0x700"]);
-    let mut child = command.stdout(Stdio::piped()).stderr(Stdio::piped()).spawn().unwrap();
-    drop(child.stdout.take());
-    let run: Run = child.wait_with_output().unwrap().into();
+    let (reads, writes) = std::io::pipe().unwrap();
+    drop(reads);
+    let run: Run = command.stdout(writes).output().unwrap().into();
     assert_eq!(run.status, 76, "{}", run.err);
     assert!(run.err.contains("the edit is done and synced"), "{}", run.err);
     assert_eq!(Table::of(&image).entry("/a").offset, 0x700);

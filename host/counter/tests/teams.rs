@@ -636,7 +636,16 @@ fn a_spoiled_record_with_teams_is_told() {
     for (text, why) in &spoiled {
         fs::write(&file, text).unwrap();
         let words = format!("this record is torn, or of another version of counter: {why}");
+        let anew = match text.starts_with("counter record 2\n") {
+            true => {
+                ". `counter record IMAGE --record FILE --teams LIST --force` makes a new one, in which no team has"
+            }
+            false => {
+                ". Take it away: then the edit makes a new one, which counts from 0. Nothing was written\n"
+            }
+        };
         not_done("a", &image, &file, &["move", "a", "0x600"], 65, &words);
+        not_done("a", &image, &file, &["move", "a", "0x600"], 65, anew);
         for more in [&["--json"][..], &[]] {
             let run = on("record", &file, more);
             assert_eq!(run.status, 65, "{text}: {}", run.err);
