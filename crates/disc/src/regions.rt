@@ -42,11 +42,7 @@ pub fn totals(image: &[u8], words: &mut [u32]) -> Result<DiscTotals, Refusal>
 }
 
 // The record of a disc before any edit.
-fn record_of(
-    disc: &OpenDisc<'_>,
-    limits: &[u32; TEAMS],
-    shares: &[u32; TEAMS],
-) -> Totals
+fn record_of(disc: &OpenDisc<'_>, limits: &[u32; TEAMS], shares: &[u32; TEAMS]) -> Totals
     ensures { (image : List ℕ) → Means image disc.now →
         result ≡ totals_of image (new_teams limits.now shares.now) }
 {
