@@ -11,7 +11,8 @@
  * Every function returns 0 where it is accepted, and else the number of the first test that failed; counter_cause tells it in words.
  *
  * An answer goes into slots that the caller lends, as many as the prototype says, in the order given below; with a number other than 0 they
- * stay as they were. Slots have no length: `uint32_t answer[4]` is a pointer to four words.
+ * stay as they were. Slots have no length: `uint32_t answer[4]` is a pointer to four words, of which a caller owes the
+ * same as of a slice.
  *
  * An entry is a file or a directory, with its number in the table; the root is entry 0. FST is the file table, DOL the program.
  *
