@@ -2,6 +2,7 @@
 -- slots that the caller lends, as many as the answer has words. With a refusal they stay. Assumes nothing:
 -- these are definitions.
 use Rattle.std.specs.Prelude.{Option, Some, None, Result, Ok, Err, ℕ, ◌-◌, ◌^◌, List, [], ◌∷◌, ◌++◌, replicate, slice_index, unwrap_or}
+use Rattle.std.specs.List.{flat_map}
 use Rattle.refusal.specs.declared.Refusal.{Refusal}
 use Rattle.refusal.specs.Refusal.{Verdict, number_of}
 use Rattle.opened.specs.declared.summary.Summary.{Summary}
@@ -20,6 +21,7 @@ use Rattle.tree.specs.declared.Found.{Found}
 use Rattle.tree.specs.declared.Found.TheVariants as found
 use Rattle.executable.specs.declared.dol.DolHeader.{DolHeader}
 use Rattle.disc.specs.declared.answers.DolFile.{DolFile}
+use Rattle.totals.specs.declared.team.Team.{Team}
 use Rattle.totals.specs.declared.Totals.{Totals}
 use Rattle.executable.specs.Program.{Program}
 use Rattle.window.specs.declared.Window.{Window}
@@ -84,8 +86,12 @@ window_in slots = record { start = slice_index slots 0; len = slice_index slots 
 abbrev pub window_words : Window → List ℕ
 window_words w = w.start ∷ w.len ∷ w.position ∷ []
 
+abbrev pub team_words : Team → List ℕ
+team_words m = m.limit ∷ m.share ∷ m.taken ∷ m.edits ∷ []
+
+-- then those of each team, in the order of their numbers
 abbrev pub totals_words : Totals → List ℕ
-totals_words t = t.used ∷ t.largest ∷ t.edits ∷ []
+totals_words t = t.used ∷ t.largest ∷ flat_map team_words t.teams
 
 -- kind 0 with offset and size, kind 1 with parent and next
 abbrev pub entry_words : ℕ → Entry → List ℕ

@@ -8,7 +8,8 @@ ghost use Rattle.counter.specs.Replies.{window_words, totals_words};
 use disc::DiscTotals;
 use opened::Summary;
 use refusal::Refusal;
-use space::{DiscRegion, Totals};
+use space::DiscRegion;
+use totals::Totals;
 use window::Window;
 
 /// A value that C is lent as it stands, with its words in the order of their slots.

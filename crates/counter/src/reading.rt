@@ -12,7 +12,8 @@ ghost use Rattle.counter.specs.Replies as replies;
 use crate::answer::give;
 use disc::DiscTotals;
 use opened::{About, Fault, Owner, Summary};
-use space::{DiscRegion, Totals};
+use space::DiscRegion;
+use totals::{TEAMS, Totals};
 use tree::{Entry, Found};
 
 // ---- an answer that two calls give
@@ -91,15 +92,22 @@ pub extern "C" fn counter_totals(image: &[u8], words: &mut [u32], answer: &mut D
     give(answer, disc::totals(image, words))
 }
 
-// A totals record of the image, its count 0: used bytes, the largest free region's size, accepted edits.
+// A totals record of the image: used bytes, the largest free region's size, and teams of these limits and
+// shares, in the order of their numbers, that have taken nothing.
 #[unsafe(no_mangle)]
-pub extern "C" fn counter_make_record(image: &[u8], words: &mut [u32], totals: &mut Totals) -> u32
+pub extern "C" fn counter_make_record(
+    image: &[u8],
+    words: &mut [u32],
+    limits: &[u32; TEAMS],
+    shares: &[u32; TEAMS],
+    totals: &mut Totals,
+) -> u32
     ensures answer { reply result (totals_words totals.new)
         ≡ reply_of totals_words (totals_words totals.old)
-        (record_answer image.now (length words.old)) }
+        (record_answer image.now (length words.old) limits.now shares.now) }
     ensures words_zero { words.new ≡ zeros words.old }
 {
-    give(totals, disc::make_record(image, words))
+    give(totals, disc::make_record(image, words, limits, shares))
 }
 
 // Where the program lies; 0 and 0 where there is none.

@@ -5,6 +5,7 @@ use Rattle.header.specs.Verdicts.{disc_end, table_end}
 use Rattle.space.specs.Free.{largest_size}
 use Rattle.space.specs.Used.{total_size}
 use Rattle.space.specs.Inner.Sort.{regions_in}
+use Rattle.totals.specs.declared.team.Team.{Team}
 use Rattle.totals.specs.declared.Totals.{Totals}
 use Rattle.space.specs.Inner.Scan.{longest_from}
 use Rattle.space.specs.Laws.LargestLaws.{largest-now}
@@ -30,7 +31,7 @@ module _ (image : List ℕ) (d : Opened) (m : Means image d) where
   table_end_fits = omega (arith, table_end_is, m.known.reads.bounds.table, m.known.reads.bounds.small)
 
   pub recorded : (w : List ℕ) (n : ℕ) → IsOpen image w n → (e t used largest : ℕ) → e ≡ d.disc.end → t ≡ d.disc.start + d.disc.table_size → used ≡ total_size d.disc.used
-      → largest ≡ longest_from e 0 (record { offset = 0; size = 0 }) t 0 (regions_in w 1 (n - 1)) → ◌≡◌ {A = Totals} (record { used = used; largest = largest; edits = 0 }) (totals_of image 0)
-  recorded w n o e t used largest p q u l =
+      → largest ≡ longest_from e 0 (record { offset = 0; size = 0 }) t 0 (regions_in w 1 (n - 1)) → (teams made : List Team) → teams ≡ made → ◌≡◌ {A = Totals} (record { used = used; largest = largest; teams = teams }) (totals_of image made)
+  recorded w n o e t used largest p q u l teams made s =
       let f : largest ≡ largest_size (free_space_of image) = rw (p, ← end_meant image d m, q, table_end_is) at l ∙ largest-is image w n o in
-      rw (f, u, ← total_meant image d m)
+      rw (f, u, s, ← total_meant image d m)

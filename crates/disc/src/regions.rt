@@ -63,8 +63,8 @@ fn record_of(
     }
 }
 
-/// A totals record of the image for teams of these limits and shares, in bytes; nothing is taken, and no edit
-/// is counted.
+/// A totals record of the image for teams of these limits and shares, in bytes; nothing is taken,
+/// and no edit is counted.
 #[tactic(auto, using(crate::proofs::Asked::not_asked), unfolding(crate::specs::Calls::record_answer))]
 pub fn make_record(
     image: &[u8],

@@ -1,20 +1,25 @@
 -- What an edit decides on, on the disc that opened, is entered in the record as any edit's decision is. Assumes nothing.
-use Rattle.std.specs.Prelude.{Result, ℕ, ◌≡◌, List, length}
+use Rattle.std.specs.Prelude.{Result, Ok, ℕ, ◌≡◌, List, length}
 use Rattle.std.proofs.Common.{sym, subst}
 use Rattle.refusal.specs.declared.Refusal.{Refusal}
+use Rattle.refusal.specs.Refusal.{first}
+use Rattle.totals.specs.Totals.{team_verdict, numbered_team}
 use Rattle.totals.specs.declared.Totals.{Totals}
 use Rattle.opened.specs.Opening.{opening, Disc, disc_of}
 use Rattle.edit_rules.specs.Edits as edits
-use Rattle.edit_rules.specs.Edits.{plan_behind, plan_of, plan_verdict}
+use Rattle.edit_rules.specs.Edits.{account, plan_behind, plan_of, plan_verdict}
 use Rattle.opened.specs.Inner.Disc.{Opened, Means}
 use Rattle.edit.specs.declared.decision.Decision.{Decision}
 use Rattle.edit.specs.Inner.Decision.{DecidedAs}
 use Rattle.edit.specs.Inner.Accounting.{OnDisc, OfUsed, Accounted, account_of, IsAccountedFor}
 use Rattle.edit.specs.Laws.AccountLaws.{on-disc}
-use Rattle.edit.proofs.Edited.{open-accounted}
+use Rattle.edit.proofs.Edited.{numbered, open-accounted}
 use Rattle.edit.specs.Inner.Decides.{IsEditDecided}
 
 -- ---- on the disc that an image means
+
+pub opens : (image : List ℕ) (words : ℕ) (d : Opened) → Means image d × (d.words ≡ words) → opening image words ≡ Ok tt
+opens image words d o = rw o.1 at o.0.known.passed
 
 module _ (ed : edits.Edit) (image : List ℕ) (words : ℕ) (d : Opened) (o : Means image d × (d.words ≡ words)) (room : ℕ) (bytes clip : List ℕ) where
   -- the plan and its tests are those of the image's disc
@@ -25,7 +30,9 @@ module _ (ed : edits.Edit) (image : List ℕ) (words : ℕ) (d : Opened) (o : Me
   pub on_disc : (r : Result Decision Refusal) → IsEditDecided ed d room bytes clip r → length bytes ≡ room → OnDisc d.disc r
   on_disc r h long = on-disc d.disc image d.words o.0.known o.0.is room bytes clip long (plan_of ed (disc_of image)) r (decided_as r h)
 
-  -- entered in the record
-  pub edit-accounted : (r : Result Decision Refusal) → IsEditDecided ed d room bytes clip r → (a : Accounted) (t : Totals) → OfUsed d (λ image' behind. a ≡ account_of image' behind r t) → length bytes ≡ room →
-      IsAccountedFor (plan_behind (opening image words) (plan_of ed (disc_of image))) image words room bytes clip t a
-  edit-accounted r h a t q long = rw o.1 at (open-accounted ed h.passable image d o.0 room bytes clip long r (decided_as r h) a t q)
+  -- entered in the record of one of its teams
+  pub edit-accounted : (r : Result Decision Refusal) → IsEditDecided ed d room bytes clip r → (x : Accounted) (t : Totals) (team k : ℕ) → Ok k ≡ numbered_team team → OfUsed d (λ image' behind. x ≡ account_of image' behind r (account t k)) → length bytes ≡ room →
+      IsAccountedFor (plan_behind (first (opening image words) (team_verdict team)) (plan_of ed (disc_of image))) image words room bytes clip (account t team) x
+  edit-accounted r h x t team k n q long =
+      let m = numbered team k n in
+      rw o.1 at (open-accounted ed h.passable image d o.0 room bytes clip long r (decided_as r h) x (account t team) m.0 (rw m.1 at q))

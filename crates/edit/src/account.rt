@@ -1,12 +1,12 @@
 // The totals record after what an edit decides on: its tests, which come last, and the record moved on.
-ghost use Rattle.std.specs.Prelude.{◌≡◌, Ok, ◌+◌, ◌<◌, ◌≤◌};
+ghost use Rattle.std.specs.Prelude.{◌≡◌, Ok, ◌+◌, ◌<◌, ◌≤◌, ◌^◌};
 ghost use Rattle.edit_rules.specs.Edits as edits;
-ghost use Rattle.edit.specs.Inner.Accounting.{OnDisc, OfUsed, change_as, moved_with, entered_for};
+ghost use Rattle.edit.specs.Inner.Accounting.{OnDisc, OfUsed, change_as, change_for};
 ghost use Rattle.edit.specs.Inner.Accounting.{account_with, account_of};
 
 use crate::decision::{Decision, Writing};
 use opened::OpenDisc;
-use refusal::{Refusal, Verdict};
+use refusal::Refusal;
 use space::{DiscRegion, UsedRegions};
 use totals::{SpaceChange, Totals};
 
@@ -15,7 +15,9 @@ use totals::{SpaceChange, Totals};
 // from the used regions in the words.
 fn space_change(disc: &OpenDisc<'_>, size: usize, old: DiscRegion, new: DiscRegion) -> SpaceChange
     requires { disc.now.disc.start + size ≤ disc.now.disc.end }
-    ensures { OfUsed disc.now (λ image behind. result ≡ change_as image behind size old new) }
+    ensures change { OfUsed disc.now (λ image behind. result ≡ change_as image behind size old new) }
+    ensures before_fits { result.before < 2 ^ 34 }
+    ensures after_fits { result.after < 2 ^ 34 }
 {
     let disc_end = disc.end();
     let size = size as u32;
@@ -32,32 +34,25 @@ fn space_change(disc: &OpenDisc<'_>, size: usize, old: DiscRegion, new: DiscRegi
     }
 }
 
-// The record after an edit of the team that decides on this; where the table stays and no file moves, largest
-// free region and used bytes are as they were.
-fn enter_decision(
-    disc: &OpenDisc<'_>,
-    decision: Decision,
-    totals: &mut Totals,
-    team: usize,
-) -> Verdict
-    requires on_disc { OnDisc disc.now.disc (Ok decision) }
-    requires is_team { team < 16 }
-    ensures { let account = edits.account totals.old team in
-        OfUsed disc.now (λ image behind.
-        moved_with result totals.new ≡ entered_for image behind decision account) }
+// What an edit that decides on this does to them; where the table stays and no file moves they are as they
+// were.
+fn change_of(disc: &OpenDisc<'_>, decision: Decision) -> SpaceChange
+    requires { OnDisc disc.now.disc (Ok decision) }
+    ensures change { OfUsed disc.now (λ image behind. result ≡ change_for image behind decision) }
+    ensures before_fits { result.before < 2 ^ 34 }
+    ensures after_fits { result.after < 2 ^ 34 }
 {
-    // An open disc has room for its own table.
-    let _ = &disc.table;
-    let change = match decision {
+    match decision {
         Decision::Nothing | Decision::Clip { .. } => {
+            // An open disc has room for its own table.
+            let _ = &disc.table;
             let Writing { old, place, .. } = Writing::NOTHING;
             space_change(disc, disc.table_size() as usize, old, place)
         }
         Decision::Write { size, writing, .. } => {
             space_change(disc, size, writing.old, writing.place)
         }
-    };
-    totals.move_on(team, change)
+    }
 }
 
 /// What is decided on, once the record is tested too: 27, 28 and 25 come last. A refused edit leaves the record
@@ -77,6 +72,6 @@ pub fn account(
     // Its used regions are known of an edit that is refused, too.
     let _ = &disc.words;
     let decision = decided?;
-    enter_decision(disc, decision, totals, team)?;
+    totals.move_on(team, change_of(disc, decision))?;
     Ok(decision)
 }

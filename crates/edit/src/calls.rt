@@ -7,8 +7,8 @@ use crate::new_entry::NewEntry;
 use crate::pipeline;
 use crate::pipeline::Edit;
 use refusal::{Refusal, Verdict};
-use totals::Totals;
 use table_writing::Kind;
+use totals::Totals;
 
 // Kept: `image`, `words`, `bytes`, `totals` in each call (C): the memory that a call of the library is lent.
 /// A bare table rewrite.
@@ -40,7 +40,14 @@ pub fn move_file(
         let after = loan image.new words.new bytes.new totals.new in
         IsEdited only_verdict (edits.move_file file offset) team before after result }
 {
-    pipeline::done(image, words, bytes, totals, team, Edit::Move { file, offset })
+    pipeline::done(
+        image,
+        words,
+        bytes,
+        totals,
+        team,
+        Edit::Move { file, offset },
+    )
 }
 
 /// The file gets another size, and another place where it cannot grow where it is.
@@ -57,7 +64,14 @@ pub fn resize_file(
         let after = loan image.new words.new bytes.new totals.new in
         IsEdited only_verdict (edits.resize_file file size) team before after result }
 {
-    pipeline::done(image, words, bytes, totals, team, Edit::Resize { file, size })
+    pipeline::done(
+        image,
+        words,
+        bytes,
+        totals,
+        team,
+        Edit::Resize { file, size },
+    )
 }
 
 /// Afterwards the file is the clip.

@@ -1,7 +1,7 @@
 // One way through every edit: opened, decided, entered in the record that is lent, carried out.
-ghost use Rattle.std.specs.Prelude.{◌≡◌, Ok, length};
+ghost use Rattle.std.specs.Prelude.{◌≡◌, length};
+ghost use Rattle.endian.specs.Bytes.{AllBytes};
 ghost use Rattle.opened.specs.Opening.{opening, disc_of};
-ghost use Rattle.edit_rules.specs.Edits as edits;
 ghost use Rattle.refusal.specs.Refusal.{first};
 ghost use Rattle.totals.specs.Totals.{team_verdict};
 ghost use Rattle.edit_rules.specs.Edits.{account, plan_behind, plan_of, number_behind};
@@ -46,20 +46,21 @@ impl<'a> Edit<'a> {
             _ => b"",
         }
     }
+
+    // Its numbers have 32 bits, and its clip is of bytes: known whatever becomes of the edit.
+    fn passable(self)
+        ensures { IsPassable (edit_of self.entry) }
+    {
+        if let Edit::Fill { clip, .. } = self {
+            of_bytes(clip);
+        }
+    }
 }
 
-// A fill. What the bytes of a clip are is known of a parameter, and not of a reference in an enum.
-fn fill_file(
-    disc: &OpenDisc<'_>,
-    bytes: &mut [u8],
-    file: u32,
-    clip: &[u8],
-) -> Result<Decision, Refusal>
-    ensures { let asked = edits.fill_file file clip.now in
-        IsEditDecided asked disc.now (length bytes.old) bytes.new clip.now result }
-{
-    filling::fill(disc, bytes, file, clip)
-}
+// What the bytes of a clip are is known of a parameter, and not of a reference in an enum.
+fn of_bytes(clip: &[u8])
+    ensures { AllBytes clip.now }
+{}
 
 /// What an edit decides on, on an open disc: all its tests but the last, and the new table in the working
 /// bytes. No image is read, so that the disc may have been opened from the parts of one.
@@ -67,11 +68,12 @@ pub fn decide(disc: &OpenDisc<'_>, bytes: &mut [u8], edit: Edit<'_>) -> Result<D
     ensures { let clip = clip_of edit.entry in
         IsEditDecided (edit_of edit.entry) disc.now (length bytes.old) bytes.new clip result }
 {
+    edit.passable();
     match edit {
         Edit::Rewrite => moving::rewrite(disc, bytes),
         Edit::Move { file, offset } => moving::move_file(disc, bytes, file, offset),
         Edit::Resize { file, size } => resizing::resize_file(disc, bytes, file, size),
-        Edit::Fill { file, clip } => fill_file(disc, bytes, file, clip),
+        Edit::Fill { file, clip } => filling::fill(disc, bytes, file, clip),
         Edit::Insert(new) => insertion::insert(disc, bytes, new),
         Edit::MakeDirectories { start, path } => {
             directories::make_directories(disc, bytes, start, path)
@@ -91,14 +93,12 @@ fn decide_image(
     team: u32,
     edit: Edit<'_>,
 ) -> Result<Decision, Refusal>
-    ensures accounted { let opened = opening image.now (length words.old) in
+    ensures { let opened = opening image.now (length words.old) in
         let admitted = first opened (team_verdict team) in
         let plan = plan_behind admitted (plan_of (edit_of edit.entry) (disc_of image.now)) in
         let clip = clip_of edit.entry in
         IsAccountedFor plan image.now (length words.old) (length bytes.old) bytes.new clip
         (account totals.old team) (account_with result totals.new) }
-    ensures passable { let opened = opening image.now (length words.old) in
-        opened ≡ Ok tt → IsPassable (edit_of edit.entry) }
 {
     let disc = OpenDisc::of_image(image, words)?;
     let team = totals::team_number(team)?;
@@ -120,9 +120,9 @@ pub fn run(
     ensures edited { let before = loan image.old words.old bytes.old totals.old in
         let after = loan image.new words.new bytes.new totals.new in
         IsEdited number_behind (edit_of edit.entry) team before after result }
-    ensures passable { let opened = opening image.old (length words.old) in
-        opened ≡ Ok tt → IsPassable (edit_of edit.entry) }
+    ensures passable { IsPassable (edit_of edit.entry) }
 {
+    edit.passable();
     let words = Lent::new(words);
     let bytes = Lent::new(bytes);
     let decided = decide_image(image, words.memory, bytes.memory, totals, team, edit);

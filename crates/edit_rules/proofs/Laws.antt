@@ -1,6 +1,7 @@
 -- What follows from the definitions.
 pub mod Accepted
 pub mod Behind
+pub mod OwnCauses
 pub mod PlaceTests
 pub mod Promised
 pub mod Puts

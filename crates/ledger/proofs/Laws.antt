@@ -34,8 +34,10 @@ pub mod Sequence
 pub mod SparedLaws
 pub mod Steps
 pub mod TableEdits
+pub mod TeamsServed
 pub mod ToldLaws
 pub mod TreeAfter
+pub mod Unbounded
 pub mod Vectors
 pub mod WorkedLedger
 pub mod Written

@@ -1,7 +1,8 @@
 -- A list of calls on an image: the image after it, what the ledger is told of it, and the record that is handed on through it. Assumes nothing: these are definitions.
-use Rattle.std.specs.Prelude.{ℕ, ◌+◌, ◌^◌, ◌<◌, ◌≤◌, ◌≡◌, ◌==◌, ◌&&◌, not, List, [], ◌∷◌, if◌then◌else◌, is_err, is_ok}
+use Rattle.std.specs.Prelude.{ℕ, ◌+◌, ◌-◌, ◌^◌, ◌<◌, ◌≤◌, ◌≡◌, ◌==◌, ◌&&◌, not, List, [], ◌∷◌, if◌then◌else◌, is_err, is_ok}
 use Rattle.endian.specs.Bytes.{AllBytes}
 use Rattle.totals.specs.declared.Totals.{Totals}
+use Rattle.opened.specs.Opening.{used_of}
 use Rattle.edit_rules.specs.Edits.{Edit, Account, insert_file, insert_directory, make_directories, move_file, resize_file, fill_file, rewrite, verdict_of, image_after, totals_after}
 use Rattle.ledger.specs.Ledger.{Report}
 
@@ -46,6 +47,14 @@ accepted_count k [] image = 0
 accepted_count k (c ∷ calls) image =
     (if c.account.team == k && is_ok (verdict_of c.edit c.account image c.words c.bytes) then 1 else 0)
     + accepted_count k calls (image_after c.edit c.account image c.words c.bytes)
+
+-- what team k has taken after the calls, where it had taken n: each call that carries it adds what the image uses more, or takes off what it
+-- uses less, down to 0. A refused call leaves the image
+unfoldable pub taken_after_all : ℕ → ℕ → List Call → List ℕ → ℕ
+taken_after_all k n [] image = n
+taken_after_all k n (c ∷ calls) image =
+    let new : List ℕ = image_after c.edit c.account image c.words c.bytes in
+    taken_after_all k (if c.account.team == k then n + used_of new - used_of image else n) calls new
 
 -- ---- what a call may be
 

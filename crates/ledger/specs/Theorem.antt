@@ -3,8 +3,8 @@
 -- (RULES, After any list of edits). Proved in proofs/Laws: `ledger-holds` and `unnamed-stays` of
 -- AfterAnyList, `fill-reads` of FillReads, `record-tells` of RecordTells, `teams-served` of TeamsServed, `maximum-kept` of MaximumKept.
 -- Assumes nothing: these are definitions.
-use Rattle.std.specs.Prelude.{Ok, Err, ¬, slice_index_or, sum_by}
-use Rattle.std.specs.Prelude.{ℕ, ◌+◌, ◌<◌, ◌≤◌, ◌≡◌, true, false, List, map, length, take}
+use Rattle.std.specs.Prelude.{Ok, Err, [], ◌∷◌, slice_index_or, sum_by}
+use Rattle.std.specs.Prelude.{ℕ, ◌+◌, ◌-◌, ◌<◌, ◌≤◌, ◌≡◌, true, false, List, map, length, take}
 use Rattle.endian.specs.Bytes.{put, span, AllBytes}
 use Rattle.header.specs.Verdicts.{dol_offset, fst_size, fst_max_size, table_end, disc_end}
 use Rattle.tree.specs.Table.{file, empty_root}
@@ -13,14 +13,14 @@ use Rattle.space.specs.Listing.{region_row, listing_of, list_after}
 use Rattle.executable.specs.Program.{program_of, program_in, program_behind}
 use Rattle.refusal.specs.declared.Refusal.TheVariants.{FreeBelowShares}
 use Rattle.totals.specs.declared.Totals.{Totals}
-use Rattle.totals.specs.Totals.{team_of, new_teams, remainders}
+use Rattle.totals.specs.Totals.{team_of, new_teams}
 use Rattle.opened.specs.Opening.{table_of, nodes_in, region_of, used_in, used_of, free_space_of, opening, disc_of}
 use Rattle.disc.specs.Calls.{totals_answer, program_answer, free_regions_answer, free_regions_list, totals_of, record_answer}
 use Rattle.window.specs.Window.{new_window, count_of, buffer_of}
 use Rattle.disc.specs.Files.{open_file_answer}
 use Rattle.edit_rules.specs.Edits.{Account, fill_file, plan_of, plan_image, verdict_of, image_after}
 use Rattle.ledger.specs.Ledger.{Ledger, node_without_place, files_before, history_of, first_ledger, ledger_after}
-use Rattle.ledger.specs.Runs.{Call, image_after_all, reports_of, totals_after_all, IsHandedOn, accepted_count, AllWithin}
+use Rattle.ledger.specs.Runs.{Call, image_after_all, reports_of, totals_after_all, IsHandedOn, accepted_count, taken_after_all, AllWithin}
 use Rattle.ledger.specs.Spared.{number_after, IsSpared}
 
 -- of the file with entry number k, which lies at `offset` and has `size` bytes, by its history in the ledger
@@ -99,12 +99,13 @@ FillReads =
     (a : Account) (image clip : List ℕ) (k words bytes w : ℕ) → AllBytes image → AllBytes clip → words ≤ w → verdict_of (fill_file k clip) a image words bytes ≡ Ok tt →
     ShowsClip (image_after (fill_file k clip) a image words bytes) w k clip
 
--- ---- a record that is handed on tells what one made afresh would, and how many edits of each team were accepted
+-- ---- a record that is handed on tells what one made afresh would, and what each team has taken, in how many edits
 
--- the record t, of an image, after so many accepted edits of each team: what a record made of the image with w words says, and the counts
-pub record Tells (image : List ℕ) (w : ℕ) (count : ℕ → ℕ) (t : Totals) : Type 0 where
+-- the record t, of an image: what a record made of the image with w words says, and what each team has taken, in how many accepted edits
+pub record Tells (image : List ℕ) (w : ℕ) (taken count : ℕ → ℕ) (t : Totals) : Type 0 where
   pub totals : t ≡ totals_of image t.teams
   pub afresh : (limits shares : List ℕ) → record_answer image w limits shares ≡ Ok (totals_of image (new_teams limits shares))
+  pub takes : (k : ℕ) → k < 16 → (team_of t k).taken ≡ taken k
   pub counts : (k : ℕ) → k < 16 → (team_of t k).edits ≡ count k
 
 -- THEOREM: a record that was made of the first image for 16 teams, and any list of calls through which it is handed on
@@ -112,7 +113,7 @@ abbrev pub RecordTells : Type 0
 RecordTells =
     (image : List ℕ) (w₀ w : ℕ) (limits shares : List ℕ) (t : Totals) (calls : List Call) → AllBytes image → length limits ≡ 16 → length shares ≡ 16 → record_answer image w₀ limits shares ≡ Ok t → w₀ ≤ w →
     AllWithin w calls → IsHandedOn t calls image →
-    Tells (image_after_all calls image) w (λ k. accepted_count k calls image) (totals_after_all t calls image)
+    Tells (image_after_all calls image) w (λ k. taken_after_all k 0 calls image) (λ k. accepted_count k calls image) (totals_after_all t calls image)
 
 -- ---- teams that edit by turns: each has its share, and none passes its limit
 
@@ -137,7 +138,7 @@ SharesSuffice (c ∷ calls) image =
 -- of the image and the record after the list; t₀ is the record before it
 pub record SharesHold (t₀ : Totals) (image : List ℕ) (t : Totals) : Type 0 where
   -- the free bytes are at least what all teams have not yet taken of their shares
-  pub shares-free : remainders t.teams ≤ total_size (free_space_of image)
+  pub shares-free : sum_by (λ m. m.share - m.taken) t.teams ≤ total_size (free_space_of image)
   -- no team has taken more than its limit
   pub within-limits : (k : ℕ) → (team_of t k).taken ≤ (team_of t k).limit
   -- limits and shares are those that were given

@@ -13,8 +13,12 @@ pub mod NewMastersApplied
 pub mod NewMastersImage
 pub mod NewMastersPaths
 pub mod NewMastersPlaced
+pub mod OnMaster
 pub mod Places
+pub mod Planned
 pub mod Programs
 pub mod Records
+pub mod Teams
+pub mod TeamsApplied
 pub mod Worked
 pub mod WorkedList

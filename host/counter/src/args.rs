@@ -172,7 +172,17 @@ const DRY_NEW: Flag = Flag {
 const RECORD: Flag = Flag {
     name: "--record",
     value: Some(("FILE", Value::New)),
-    words: "keeps the record (used bytes, largest free region, edits) in FILE; see `counter help record`",
+    words: "keeps the record (used bytes, largest free region, edits, teams) in FILE; see `counter help record`",
+};
+const TEAM: Flag = Flag {
+    name: "--team",
+    value: Some(("NAME|NUMBER", Value::Number)),
+    words: "whose edit it is, where the record in FILE has teams",
+};
+const TEAMS: Flag = Flag {
+    name: "--teams",
+    value: Some(("LIST", Value::File)),
+    words: "the teams: a text file with number, limit, share and name of each, one team a line",
 };
 const FORCE: Flag = Flag {
     name: "--force",
@@ -247,7 +257,7 @@ const MAP: Flag = Flag {
 
 const LOOK: &[&Flag] = &[&JSON, &WAIT, &AS_IS];
 const NAMED: &[&Flag] = &[&BYTES, &JSON, &WAIT, &AS_IS];
-const EDIT: &[&Flag] = &[&RECORD, &DRY, &BYTES, &JSON, &WAIT];
+const EDIT: &[&Flag] = &[&RECORD, &TEAM, &DRY, &BYTES, &JSON, &WAIT];
 
 const fn look(
     name: &'static str,
@@ -320,14 +330,21 @@ pub const FORMS: &[Form] = &[
         &["counter place disc.iso 64K", "counter place disc.iso 0x1000 4"],
     ),
     Form {
-        flags: &[&RECORD, &FORCE, &JSON, &WAIT],
+        flags: &[&RECORD, &TEAMS, &FORCE, &JSON, &WAIT],
         more: TOTALS,
         ..look(
             "record",
             &[&IMAGE],
             "a new record: used bytes, free bytes, the largest free region, and 0 edits; with --record \
-             written to FILE",
-            &["counter record disc.iso", "counter record disc.iso --record disc.totals"],
+             written to FILE. Of a FILE in the place of IMAGE: the record in it, and its teams as a table",
+            &[
+                "counter record disc.iso",
+                "counter record disc.iso --record disc.totals",
+                "counter record disc.totals",
+                "counter record disc.iso --record disc.totals --teams teams.txt --force",
+                "counter mkdir disc.iso /text/de --record disc.totals --team French",
+                "counter record disc.totals",
+            ],
         )
     },
     Form {
@@ -455,7 +472,7 @@ pub const FORMS: &[Form] = &[
         &["counter resize disc.iso /text/en/msg.bin 8K"],
     ),
     Form {
-        flags: &[&FROM, &CLIP_SIZE, &EMPTY, &RECORD, &DRY, &BYTES, &JSON, &WAIT],
+        flags: &[&FROM, &CLIP_SIZE, &EMPTY, &RECORD, &TEAM, &DRY, &BYTES, &JSON, &WAIT],
         more: FILL,
         ..edit(
             "fill",
@@ -471,7 +488,7 @@ pub const FORMS: &[Form] = &[
         )
     },
     Form {
-        flags: &[&RECORD, &DRY, &JSON, &WAIT],
+        flags: &[&RECORD, &TEAM, &DRY, &JSON, &WAIT],
         ..edit(
             "rewrite",
             &[&IMAGE],
@@ -523,11 +540,11 @@ multiple of 0x8000 is at or past its end is all \"before\".";
 
 const TOTALS: &str = "\
 After every edit its record is told: used and free bytes, the size of the largest free region (0 if there \
-is none), and how many edits were accepted since the record was made, those too that had nothing to write. \
-Without --record one is made for the one edit, so that edits is 1.
+is none), and how many edits were accepted since the record was made, those too that had nothing to write; \
+where it has teams, also what is so of the team. Without --record one is made for the one edit, so that edits is 1.
 With --record an edit takes the record in FILE and leaves there what comes back; where there is no FILE, \
-a new record is made of the image first. A refused edit and a dry run leave FILE as it was. FILE is a \
-text of two lines. A link to it is followed, and its mode is kept. It may not be the image, a clip, a \
+a new record without teams is made of the image first. A refused edit and a dry run leave FILE as it was. FILE is \
+a text of two lines, and of one more for each team. A link to it is followed, and its mode is kept. It may not be the image, a clip, a \
 journal, a folder or a special file (64). While an edit uses it, another one that wants it is told to wait \
 (75), or waits with --wait.
 What comes back is in the edit's journal, and in FILE before the journal goes. So an edit that was cut is \
@@ -539,7 +556,18 @@ of no use.
 If used bytes or largest free region in FILE are not the image's, somebody edited without it, or it is \
 another image's: the edit is not begun (65). Then make a new record with --force, or take FILE away. An edit \
 without FILE that left both numbers as they were is not noticed, and not counted. An edit after the \
-4,294,967,295th is refused (25).";
+4,294,967,295th, of its team where there are teams, is refused (25).
+Up to 16 teams edit an image by turns. With --teams the new record has those of LIST, a text file in UTF-8 with a line \
+for each: its number (0 to 15), limit, share and name, parted by spaces. Limit and share are bytes, written as SIZE; \
+a limit of `none` or - is none. A name has at most 100 bytes, is no number, may have spaces in it or be left out. \
+Empty lines, and those that begin with #, say nothing. A LIST that is wrong is an error (65), which names the line. No \
+limit or share is refused; shares that are together more than the free bytes, or above their limits, are told. Without \
+--record the record is only shown.
+With such a record every edit wants --team, the name or the number of a team that LIST has (64). What an edit costs, \
+the used bytes after it less those before, is added to what its team has taken, which is never below 0. It is refused \
+if that would be above the team's limit (27), or if fewer bytes would be free after it than all other teams together \
+have yet to take of their shares (28), and says by how many, as --dry-run does. `counter record FILE` shows all teams. \
+--force without --teams does not replace a record that has teams (73).";
 
 const FILL: &str = "\
 A clip of no bytes is not taken (65), from whatever source, unless --empty or --size 0 says that it is meant: \
@@ -663,6 +691,9 @@ pub struct Args {
     /// The other image, and behind a `:` a path in it; or the list of a new master's files.
     pub from: Option<PathBuf>,
     pub record: Option<PathBuf>,
+    /// The list of a record's teams, and the team that an edit goes by.
+    pub teams: Option<PathBuf>,
+    pub team: Option<OsString>,
     pub out: Option<PathBuf>,
     pub map: Option<PathBuf>,
 }
@@ -734,6 +765,8 @@ impl Args {
             given: Vec::new(),
             from: None,
             record: None,
+            teams: None,
+            team: None,
             out: None,
             map: None,
         };
@@ -752,6 +785,9 @@ impl Args {
         args.place_operands(bare)?;
         if args.force && args.record.is_none() {
             return Err(Failure::usage("--force is for --record FILE"));
+        }
+        if args.team.is_some() && args.record.is_none() {
+            return Err(Failure::usage("--team is for --record FILE, a record that has teams"));
         }
         Ok(args)
     }
@@ -794,6 +830,10 @@ impl Args {
             "--given" => self.given.push(file()?),
             "--record" if self.record.is_some() => return Err(twice()),
             "--record" => self.record = Some(file()?),
+            "--teams" if self.teams.is_some() => return Err(twice()),
+            "--teams" => self.teams = Some(file()?),
+            "--team" if self.team.is_some() => return Err(twice()),
+            "--team" => self.team = Some(given("a team's name or number")?),
             "--from" if self.from.is_some() => return Err(twice()),
             "--from" => self.from = Some(file()?),
             "--size" if self.size.is_some() => return Err(twice()),
@@ -856,6 +896,7 @@ impl Form {
             let instead = match (self.name, operand.name) {
                 ("extract", "PATH") => "PATH|--all",
                 ("map", "IMAGE") => "IMAGE|--demo",
+                ("record", "IMAGE") => "IMAGE|FILE",
                 ("fill", "CLIP") => "CLIP|--from OTHER[:PATH]",
                 ("new", "OUT") => "OUT --size SIZE --code GAME --from LIST|--from-dir DIR",
                 (_, name) => name,

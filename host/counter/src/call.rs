@@ -161,23 +161,26 @@ impl<'a> Call<'a> {
         image: &mut [u8],
         mut memory: Memory,
         record: &mut Record,
+        team: u32,
     ) -> Result<Option<u32>, u32> {
         let memory = &mut memory;
         match *self {
             Call::MakeFolders(path) => {
-                counter::make_directories(image, memory, record, 0, path).map(Some)
+                counter::make_directories(image, memory, record, team, 0, path).map(Some)
             }
             Call::Insert(parent, name) => {
-                counter::insert_file(image, memory, record, parent, name).map(Some)
+                counter::insert_file(image, memory, record, team, parent, name).map(Some)
             }
-            Call::Move(at, to) => counter::move_file(image, memory, record, at, to).map(|()| None),
+            Call::Move(at, to) => {
+                counter::move_file(image, memory, record, team, at, to).map(|()| None)
+            }
             Call::Resize(at, to) => {
-                counter::resize_file(image, memory, record, at, to).map(|()| None)
+                counter::resize_file(image, memory, record, team, at, to).map(|()| None)
             }
             Call::Fill(at, clip) => {
-                counter::fill_file(image, memory, record, at, clip).map(|()| None)
+                counter::fill_file(image, memory, record, team, at, clip).map(|()| None)
             }
-            Call::Rewrite => counter::rewrite(image, memory, record).map(|()| None),
+            Call::Rewrite => counter::rewrite(image, memory, record, team).map(|()| None),
             Call::Maximum(to) => {
                 image[FST_MAXIMUM_AT..][..4].copy_from_slice(&to.to_be_bytes());
                 Ok(None)
@@ -226,10 +229,6 @@ pub fn refused(wish: &Wish, number: u32) -> Failure {
              or the table has no room; see `counter free`",
         ),
         (21, _) => failure.because("something lies right behind the table"),
-        (25, _) => failure.because(
-            "the record's count is at its end; `counter record IMAGE --record FILE --force` makes a \
-             new one",
-        ),
         _ => failure,
     }
 }

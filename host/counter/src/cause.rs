@@ -2,7 +2,7 @@
 //! library's `Display` (crates/refusal), and counter.h has them for C; tests/c.rs holds the three together.
 
 /// The cause with number n is the n-th.
-pub const CAUSES: [&str; 26] = [
+pub const CAUSES: [&str; 28] = [
     "header field past the image",
     "Wii magic",
     "not GameCube magic",
@@ -29,6 +29,8 @@ pub const CAUSES: [&str; 26] = [
     "DOL header past the image, or a sum above 2^32 - 1",
     "used bytes or edit count would leave 0 to 2^32 - 1",
     "new table above the maximum",
+    "taken bytes above the team's limit",
+    "free bytes below the other teams' shares",
 ];
 
 /// None where no call answers the number.

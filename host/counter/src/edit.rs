@@ -18,7 +18,7 @@ use crate::text::human;
 use crate::told::{dry, report};
 use crate::trial::{Trial, try_out};
 use crate::{edited, kept, record, redo, room, signals};
-use counter_sys as counter;
+use counter_sys::Record;
 use std::fs::File;
 use std::io;
 use std::path::Path;
@@ -30,10 +30,10 @@ pub fn edit(args: &Args) -> Outcome<()> {
     let mut image = open(path, args.dry)?;
     let mut desk = Desk::new();
     let before = Disc::read(&image, &mut desk)?;
-    let (given, kept) = record::in_use(file.as_deref(), args.dry, &image, &mut desk)?;
+    let (turn, kept) = record::in_use(args, file.as_deref(), &image, &mut desk)?;
     let call = Call::new(&wish, &image, &mut desk)?;
     let progress = Progress::start("trying", 0);
-    let trial = try_out(&wish, &call, &image, &mut desk, &before, given)?;
+    let trial = try_out(&wish, &call, &image, &mut desk, &before, turn)?;
     drop(progress);
     let text = report(&wish, &call, &before, &trial);
     let nothing = trial.change.is_nothing();
@@ -46,7 +46,7 @@ pub fn edit(args: &Args) -> Outcome<()> {
     let done = |words: &str| {
         told.unwrap_or_else(|| [&text, format!("done: {words}\n").as_bytes()].concat())
     };
-    let totals = kept.as_ref().map(|kept| kept.totals(record::text(&trial.record)));
+    let totals = kept.as_ref().map(|kept| kept.totals(trial.turn.account.text()));
     if nothing {
         let last = done("there was nothing to write");
         return totals.map_or_else(|| say(&last), |totals| only_count(&totals, &last));
@@ -155,8 +155,9 @@ fn carry_out(
             .map_err(|e| stuck(&file, &path, &journal, &e))?;
     }
     signals::no_way_back().map_err(|e| stuck(&file, &path, &journal, &e))?;
-    let answer = (trial.found, trial.record);
-    write(call, image, desk, &journal, trial.given, answer).inspect_err(|why| {
+    let answer = (trial.found, trial.turn.account.record);
+    let account = (trial.given, trial.turn.team);
+    write(call, image, desk, &journal, account, answer).inspect_err(|why| {
         // The journal of an edit that may have written stays.
         if why.status() != CUT {
             given_up(&file, &journal);
@@ -215,8 +216,8 @@ fn write(
     image: &mut Image,
     desk: &mut Desk,
     journal: &Journal,
-    mut totals: counter::Record,
-    answer: (Option<u32>, counter::Record),
+    (mut record, team): (Record, u32),
+    answer: (Option<u32>, Record),
 ) -> Outcome<()> {
     let change = &journal.plan.change;
     let clip = match &journal.clip {
@@ -225,9 +226,10 @@ fn write(
     };
     let clip = clip.map_err(|e| Failure::file(INPUT_OUTPUT, Path::new(&image.name), &e))?;
     let watch = Watch::new(image.bytes(), &change.spans());
-    let got = call.with_clip(clip.bytes()).run(image.bytes_mut(), desk.lend(), &mut totals);
+    let call = call.with_clip(clip.bytes());
+    let got = call.run(image.bytes_mut(), desk.lend(), &mut record, team);
     watch.done(image.bytes());
-    if (got, totals) == (Ok(answer.0), answer.1) {
+    if (got, record) == (Ok(answer.0), answer.1) {
         return Ok(());
     }
     // A refusal has written nothing.

@@ -6,7 +6,6 @@ use crate::disc::{Disc, Kind, Node};
 use crate::json::{self, Json};
 use crate::maximum::Maximum;
 use crate::names;
-use crate::record;
 use crate::told::{lost, notes, renumbered};
 use crate::trial::Trial;
 use std::collections::{HashMap, HashSet};
@@ -43,7 +42,7 @@ pub fn json(args: &Args, wish: &Wish, call: &Call, before: &Disc, trial: &Trial)
         ("renumbered", renumbered.into()),
         ("lost", lost(wish, call, before, trial).into()),
         ("notes", Json::List(notes.collect())),
-        ("record", record::json(&trial.record, after.opened.disc_end)),
+        ("record", trial.turn.json(after.opened.disc_end)),
     ];
     if let Wish::Fill(_, clip) = wish {
         let clip = vec![("name", clip.name.as_str().into()), ("size", clip.len.into())];

@@ -28,15 +28,9 @@ const SIGPIPE: u8 = 13;
 
 #[derive(Debug)]
 pub enum Failure {
-    /// The proved library said no. `what` is what it was asked about, `detail` more than the number,
-    /// `above` what 26 is about, `least` how large a new master has to be.
-    Refused {
-        number: u32,
-        what: String,
-        detail: Option<String>,
-        above: Option<Above>,
-        least: Option<u64>,
-    },
+    /// The proved library said no. `what` is what it was asked about, `detail` more than the number, in
+    /// words, and `measures` in numbers.
+    Refused { number: u32, what: String, detail: Option<String>, measures: Option<Measures> },
     /// Anything else that went wrong.
     Error { status: u8, text: String },
     /// A signal came at a place where the program could stop.
@@ -45,14 +39,27 @@ pub enum Failure {
     Pipe,
 }
 
-/// A table that an edit would write: its size before and after, the maximum, and by how many bytes it is
-/// above.
-#[derive(Debug, Clone, Copy)]
-pub struct Above {
-    pub before: u64,
-    pub after: u64,
-    pub maximum: u64,
-    pub above: u64,
+/// What a refusal is about, in numbers.
+#[derive(Debug, Clone)]
+pub enum Measures {
+    /// 26, a table that an edit would write: its size before and after, the maximum, and by how many bytes
+    /// it is above.
+    Table { before: u64, after: u64, maximum: u64, above: u64 },
+    /// 21 of `new`: how large a new master has to be.
+    Least(u64),
+    /// 27, whose edit it is, what that team has taken and what the edit costs it, and by how many bytes both
+    /// are above its limit.
+    Limit { team: Whose, taken: u32, cost: i64, limit: u32, above: u64 },
+    /// 28, whose edit it is and what it costs, the bytes that it would leave free, those that the other teams
+    /// have yet to take of their shares, and how many are short.
+    Shares { team: Whose, cost: i64, free: u64, others: u64, short: u64 },
+}
+
+/// A team.
+#[derive(Debug, Clone)]
+pub struct Whose {
+    pub number: u32,
+    pub name: Option<String>,
 }
 
 pub type Outcome<T> = Result<T, Failure>;
@@ -63,7 +70,7 @@ impl Failure {
             let text = format!("libcounter answered {number}, which is no number of a cause");
             return Failure::Error { status: INTERNAL, text };
         }
-        Failure::Refused { number, what: what.into(), detail: None, above: None, least: None }
+        Failure::Refused { number, what: what.into(), detail: None, measures: None }
     }
 
     /// The same refusal with more said about it.
@@ -82,18 +89,10 @@ impl Failure {
         self
     }
 
-    /// The same refusal with the table's sizes.
-    pub fn above(mut self, sizes: Above) -> Failure {
-        if let Failure::Refused { above, .. } = &mut self {
-            *above = Some(sizes);
-        }
-        self
-    }
-
-    /// The same refusal with the least size that would do.
-    pub fn at_least(mut self, size: u64) -> Failure {
-        if let Failure::Refused { least, .. } = &mut self {
-            *least = Some(size);
+    /// The same refusal with what it is about in numbers.
+    pub fn measured(mut self, numbers: Measures) -> Failure {
+        if let Failure::Refused { measures, .. } = &mut self {
+            *measures = Some(numbers);
         }
         self
     }

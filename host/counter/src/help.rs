@@ -207,7 +207,12 @@ const FIELDS: &[(&str, &str)] = &[
     ),
     ("find", "ENTRY with largest_size (null for a directory)"),
     ("place", "size align offset room; room: the free bytes from offset on"),
-    ("record", "status record{used free largest_free edits} out; out: FILE, or null"),
+    (
+        "record",
+        "status record{used free largest_free edits teams[TEAM]} notes[...] out; edits: of all teams; teams: null \
+         where there are none; out: FILE of --record, or null; a FILE in the place of IMAGE: no notes and out, and \
+         free is null",
+    ),
     ("cat", "path path_bytes offset size hex"),
     ("extract", "bytes files[path path_bytes file file_bytes size]"),
     ("dol", "offset size entry_point bss_address bss_size sections[name offset address size]"),
@@ -241,7 +246,7 @@ const FIELDS: &[(&str, &str)] = &[
     ),
     (
         "recover",
-        "status edit finished written out record{used free largest_free edits}; finished: the edit that was \
+        "status edit finished written out record{used free largest_free edits team{TEAM}}; finished: the edit that was \
          cut, or null; out: the FILE of its --record, where it was written, or null; record: as it is after that edit, or null (maximum has none)",
     ),
     (
@@ -264,7 +269,8 @@ const COMPARED: &str = "status before after manifest manifest_sum before_sum aft
 const EDITED: &str = "status edit path path_bytes dry_run written table{before after} \
     entries[number path path_bytes kind before{offset size} after{offset size}] \
     renumbered{first last} lost notes[...] \
-    record{used free largest_free edits}; written: whether the image was, whatever became of the \
+    record{used free largest_free edits team{TEAM}}; edits: of all teams; team: null where there are none; \
+    written: whether the image was, whatever became of the \
     FILE of --record; entries: those that are new or differ; renumbered: those that have higher numbers \
     afterwards, or null; lost: how many bytes that the file held are gone; where all paths take more than 64 MiB, path is `entry N` and \
     path_bytes null";
@@ -279,6 +285,12 @@ fn json(forms: &[Form]) -> String {
     }
     if forms.iter().any(|form| ["list", "tree", "find"].contains(&form.name)) {
         out.push_str("  ENTRY    number kind parent path path_bytes, and offset size (kind file) or next (kind directory)\n");
+    }
+    if forms.iter().any(|form| form.has("--record") || form.name == "recover") {
+        out.push_str(
+            "  TEAM     number name limit share taken left_of_limit left_of_share edits; name: or null; limit:\n\
+             \x20          4294967295 is none, and left_of_limit then null\n",
+        );
     }
     if forms.iter().any(|form| form.name == "info") {
         out.push_str("  game_code, maker, game_name: character n is byte n\n");
@@ -300,7 +312,7 @@ fn json(forms: &[Form]) -> String {
             "  clip{name size}: of a fill; entries has the file that was filled in any case\n",
         );
     }
-    out.push_str("  A refusal: status refused cause about detail; 26 also table{before after maximum above}, and 21 of\n  `new` least, which is the least --size. Another error: status error.\n");
+    out.push_str("  A refusal: status refused cause about detail; 26 also table{before after maximum above}, 27\n  limit{team name taken cost limit above}, 28 shares{team name cost free others short}, and 21 of `new`\n  least, which is the least --size. Another error: status error.\n");
     out
 }
 
@@ -397,17 +409,19 @@ fn statuses() -> String {
     out.push_str(
         "  64  wrong usage; a PATH that is no UTF-8, or has a character that Shift-JIS does not have;\n\
          \x20     --record: a FILE that is the image, a clip, a journal, a folder or a special file;\n\
+         \x20     --team: left out with a record that has teams, given with another, or no team of it;\n\
          \x20     fill: a clip that is the image, a journal or a clip that is kept\n\
          \x20 65  compare, report: an image too short for a header, a LIST or a manifest that is wrong;\n\
          \x20     a command that shows every path: more than 64 MiB of them;\n\
          \x20     --record: a FILE that is torn or no record, or whose used bytes or largest free region\n\
          \x20     are not the image's;\n\
+         \x20     record: a FILE that is torn in the place of IMAGE; --teams: a LIST that is wrong;\n\
          \x20     fill: a clip of no bytes without --empty, or of other than --size bytes;\n\
          \x20     new: a LIST that is wrong; OUT in DIR; in DIR a name that Shift-JIS does not have, a\n\
          \x20     counter-new.N, a file of 4 GiB or more, one whose length changes meanwhile, or more than\n\
          \x20     100,000 files\n\
          \x20 66  no such image or clip, or a folder in its place, or a special file in the image's;\n\
-         \x20     --given, --from LIST: no such LIST, or a folder in its place;\n\
+         \x20     --given, --from, --teams LIST: no such LIST, or a folder in its place;\n\
          \x20     new: no such DIR, or a file in its place, or a link or a special file in it\n\
          \x20 70  the library answered what it never should\n\
          \x20 73  an output, a journal, a clip that is kept or a record cannot be created, or is there already;\n\

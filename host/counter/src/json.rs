@@ -7,7 +7,7 @@ use std::fmt::Write;
 pub enum Json {
     Null,
     Flag(bool),
-    Number(u64),
+    Number(i128),
     Text(String),
     List(Vec<Json>),
     Object(Vec<(&'static str, Json)>),
@@ -27,13 +27,19 @@ impl From<u32> for Json {
 
 impl From<u64> for Json {
     fn from(number: u64) -> Json {
-        Json::Number(number)
+        Json::Number(number.into())
+    }
+}
+
+impl From<i64> for Json {
+    fn from(number: i64) -> Json {
+        Json::Number(number.into())
     }
 }
 
 impl From<usize> for Json {
     fn from(number: usize) -> Json {
-        Json::Number(number as u64)
+        Json::Number(number as i128)
     }
 }
 

@@ -15,8 +15,8 @@ use std::os::unix::fs::{MetadataExt, OpenOptionsExt, fchown};
 use std::path::{Path, PathBuf};
 use std::process;
 
-/// No record has more bytes; every image that opens has.
-const LONGEST: u64 = 0x400;
+/// No record has more bytes.
+const LONGEST: u64 = 0x1000;
 
 // Where it lies ---------------------------------------------------------------------------
 

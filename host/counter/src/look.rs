@@ -33,7 +33,7 @@ pub fn info(args: &Args) -> Outcome<()> {
     let header = Header::read(image.bytes()).map_err(|n| not_opened(&image, n))?;
     let maximum = Maximum::read(&image, &mut desk, &disc.opened)?;
     let program = Program::read(&image, &mut desk, &disc.opened)?;
-    let largest = record::fresh(&image, &mut desk)?.largest;
+    let largest = record::fresh(&image, &mut desk)?.record.largest;
     if args.json {
         let mut fields = info_fields(&image, &header, &disc);
         fields.push(("largest_free", largest.into()));

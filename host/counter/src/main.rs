@@ -6,6 +6,7 @@
 #[macro_use]
 mod out;
 
+mod account;
 mod area;
 mod args;
 mod banner;
@@ -53,6 +54,7 @@ mod signals;
 mod stored;
 mod sum;
 mod take;
+mod teams;
 mod text;
 mod told;
 mod tree;
@@ -64,7 +66,7 @@ mod wanted;
 
 use args::{Args, FORMS, Form};
 use cause::cause;
-use failure::{Failure, Outcome};
+use failure::{Failure, Measures, Outcome, Whose};
 use json::Json;
 use out::say;
 use std::env;
@@ -186,23 +188,50 @@ fn finish(outcome: Outcome<u8>, json: bool) -> i32 {
 fn told(failure: &Failure) -> Json {
     let mut fields = vec![("status", Json::from(u32::from(failure.status())))];
     match failure {
-        Failure::Refused { number, what, detail, above, least } => {
+        Failure::Refused { number, what, detail, measures } => {
             fields.push(("refused", (*number).into()));
             fields.push(("cause", cause(*number).into()));
             fields.push(("about", what.as_str().into()));
             fields.push(("detail", detail.as_deref().into()));
-            fields.extend(above.map(|table| {
-                let numbers = vec![
-                    ("before", table.before.into()),
-                    ("after", table.after.into()),
-                    ("maximum", table.maximum.into()),
-                    ("above", table.above.into()),
-                ];
-                ("table", Json::Object(numbers))
-            }));
-            fields.extend(least.map(|least| ("least", least.into())));
+            fields.extend(measures.as_ref().map(measured));
         }
         other => fields.push(("error", other.to_string().into())),
     }
     Json::Object(fields)
+}
+
+/// What a refusal is about, in numbers.
+fn measured(measures: &Measures) -> (&'static str, Json) {
+    let of = |team: &Whose| [("team", team.number.into()), ("name", team.name.as_deref().into())];
+    let all = |team: &Whose, numbers: Vec<(&'static str, Json)>| {
+        Json::Object(of(team).into_iter().chain(numbers).collect())
+    };
+    match measures {
+        Measures::Table { before, after, maximum, above } => {
+            let [before, after, maximum, above] =
+                [before, after, maximum, above].map(|&n| n.into());
+            let numbers =
+                vec![("before", before), ("after", after), ("maximum", maximum), ("above", above)];
+            ("table", Json::Object(numbers))
+        }
+        Measures::Least(least) => ("least", (*least).into()),
+        Measures::Limit { team, taken, cost, limit, above } => {
+            let numbers = vec![
+                ("taken", (*taken).into()),
+                ("cost", (*cost).into()),
+                ("limit", (*limit).into()),
+                ("above", (*above).into()),
+            ];
+            ("limit", all(team, numbers))
+        }
+        Measures::Shares { team, cost, free, others, short } => {
+            let numbers = vec![
+                ("cost", (*cost).into()),
+                ("free", (*free).into()),
+                ("others", (*others).into()),
+                ("short", (*short).into()),
+            ];
+            ("shares", all(team, numbers))
+        }
+    }
 }

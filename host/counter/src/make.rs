@@ -2,10 +2,11 @@
 //! to a new file, and what is zero stays a hole in it. A folder's files are then filled in by the library, and
 //! the file gets its name when all of it is on the disk.
 
+use crate::account;
 use crate::args::Args;
-use crate::disc::{Disc, Kind, Node, not_opened, table_end};
+use crate::disc::{Disc, Kind, Node, table_end};
 use crate::disk::{self, On};
-use crate::failure::{CANNOT_CREATE, DATA, Failure, INPUT_OUTPUT, INTERNAL, Outcome};
+use crate::failure::{CANNOT_CREATE, DATA, Failure, INPUT_OUTPUT, INTERNAL, Measures, Outcome};
 use crate::image::{Desk, Image, cannot_open};
 use crate::journal;
 use crate::json::{self, Json};
@@ -148,7 +149,9 @@ fn are_wanted(wish: &Wish, disc: &Disc) -> Outcome<()> {
 fn refused(wish: &Wish, number: u32) -> Failure {
     let failure = Failure::refused(number, format!("new {}", names::file(wish.out)));
     match wish.files.trouble(number) {
-        Some(Trouble { why, least: Some(least) }) => failure.because(why).at_least(least),
+        Some(Trouble { why, least: Some(least) }) => {
+            failure.because(why).measured(Measures::Least(least))
+        }
         Some(Trouble { why, least: None }) => failure.because(why),
         None => failure,
     }
@@ -305,8 +308,7 @@ fn fill_in(
     }
     let progress = Progress::start("new", wish.lengths().sum());
     let mut image = Image::fresh(early, file)?;
-    let mut record =
-        counter::make_record(image.bytes(), &mut desk.lend()).map_err(|n| not_opened(&image, n))?;
+    let mut record = account::open(disc.opened.used);
     for ((node, ..), wanted) in files(disc).zip(&wish.files.files) {
         let Source::File(path) = &wanted.source else { continue };
         let clip = contents(path, wanted)?;
@@ -314,6 +316,7 @@ fn fill_in(
             image.bytes_mut(),
             &mut desk.lend(),
             &mut record,
+            0,
             node.number,
             clip.bytes(),
         )

@@ -3,7 +3,7 @@
 
 use crate::call::Call;
 use crate::disc::{not_opened, table_anew};
-use crate::failure::{Above, Failure, Outcome};
+use crate::failure::{Failure, Measures, Outcome};
 use crate::header::Header;
 use crate::image::{Desk, Image};
 use crate::json::Json;
@@ -139,19 +139,24 @@ pub fn explained(
              0x42c; {room}",
             bytes(after)
         ))
-        .above(Above { before: table, after, maximum, above })
+        .measured(Measures::Table { before: table, after, maximum, above })
 }
 
 /// The size of the table that an edit which is refused with 26 would write. Too few working bytes for it are
 /// 9, which is tested before 26: so it is the least number of them with which the answer is 26 still.
-pub fn new_size(call: &Call, image: &mut [u8], desk: &mut Desk, record: Record) -> u64 {
+pub fn new_size(
+    call: &Call,
+    image: &mut [u8],
+    desk: &mut Desk,
+    (record, team): (Record, u32),
+) -> u64 {
     let (mut short, mut enough) = (0, desk.lend().bytes.len());
     while enough - short > 1 {
         let some = short + (enough - short) / 2;
         let Memory { words, bytes } = desk.lend();
         let memory = Memory { words, bytes: &mut bytes[..some] };
         let mut record = record;
-        match call.run(image, memory, &mut record) {
+        match call.run(image, memory, &mut record, team) {
             Err(26) => enough = some,
             _ => short = some,
         }

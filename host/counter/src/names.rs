@@ -4,7 +4,7 @@
 //! the library tells; the characters are those of the system's iconv. Nothing else in the program knows the
 //! code.
 
-use crate::text::{is_obeyed, one_line, wide};
+use crate::text::{is_obeyed, one_line, width};
 use crate::units::{is_lead, is_pair, is_unit, unit, units};
 use std::collections::HashMap;
 use std::env;
@@ -269,7 +269,7 @@ pub fn shown(bytes: &[u8]) -> Vec<u8> {
 pub fn columns(bytes: &[u8]) -> usize {
     match (are_raw(), terminal_has_utf_8()) {
         (true, _) => bytes.len(),
-        (false, true) => text(bytes).chars().map(|c| if wide(c) { 2 } else { 1 }).sum(),
+        (false, true) => width(&text(bytes)),
         (false, false) => escaped(bytes).len(),
     }
 }

@@ -1,5 +1,6 @@
 //! An edit that was cut is finished: by `recover`, and before the next edit.
 
+use crate::account::Turn;
 use crate::args::Args;
 use crate::disk::{self, reason};
 use crate::failure::{CANNOT_CREATE, CUT, Failure, INPUT_OUTPUT, Outcome, UNSAID};
@@ -15,7 +16,7 @@ use crate::record;
 use crate::redo::{self, Owned};
 use crate::signals;
 use crate::text::human;
-use counter_sys::{self as counter, Record};
+use counter_sys as counter;
 use std::fs::File;
 use std::io;
 use std::path::Path;
@@ -31,7 +32,7 @@ pub fn recover(args: &Args) -> Outcome<()> {
         Some(edit) => format!(
             "finished an edit that was cut: {}\n{}{}done: written and synced\n",
             edit.words,
-            edit.record.map_or(String::new(), |record| record::line(&record, edit.disc_end)),
+            edit.turn.as_ref().map_or(String::new(), |turn| turn.line(edit.disc_end)),
             edit.file.as_ref().map_or(String::new(), |file| format!("record written to {file}\n"))
         ),
     };
@@ -49,7 +50,7 @@ fn json(finished: Option<&Finished>) -> Json {
         (
             "record",
             finished
-                .and_then(|edit| edit.record.map(|record| record::json(&record, edit.disc_end)))
+                .and_then(|edit| edit.turn.as_ref().map(|turn| turn.json(edit.disc_end)))
                 .into(),
         ),
     ])
@@ -59,7 +60,7 @@ fn json(finished: Option<&Finished>) -> Json {
 /// in none.
 pub struct Finished {
     pub words: String,
-    record: Option<Record>,
+    turn: Option<Turn>,
     /// The record's file, where it was written.
     pub file: Option<String>,
     disc_end: u32,
@@ -129,12 +130,12 @@ pub fn put_right(image: &Image, how: &How) -> Outcome<Option<Finished>> {
         (None, None) => {}
     }
     let file = written.map(|totals| names::file(&totals.file));
-    let record = match journal.plan.change.maximum {
+    let turn = match journal.plan.change.maximum {
         Some(_) => None,
         None => Some(counted.map_or_else(|| record::alone(image, &mut desk), Ok)?),
     };
     journal.remove().map_err(|why| still_there(&journal, &why))?;
-    Ok(Some(Finished { words, record, file, disc_end: opened.disc_end }))
+    Ok(Some(Finished { words, turn, file, disc_end: opened.disc_end }))
 }
 
 fn left(totals: &Totals) {

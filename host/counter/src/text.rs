@@ -70,11 +70,9 @@ pub fn counted(number: usize, one: &str, many: &str) -> String {
     format!("{} {}", grouped(number as u64), if number == 1 { one } else { many })
 }
 
-/// A number as the command line takes it: base ten or 0x, then K, M or G for 2^10, 2^20, 2^30.
-pub fn number(text: &[u8]) -> Result<u32, String> {
-    let shown = shown(text);
-    let wrong = || format!("{shown}: a number is wanted, in base ten or with 0x, with K, M or G");
-    let text = std::str::from_utf8(text).map_err(|_| wrong())?;
+/// A number as the command line takes it: its digits, their base, and by how many bits K, M or G shifts it.
+fn parts(text: &[u8]) -> Option<(&str, u32, u32)> {
+    let text = std::str::from_utf8(text).ok()?;
     let (digits, shift) = match text.as_bytes().last() {
         Some(b'K' | b'k') => (&text[..text.len() - 1], 10),
         Some(b'M' | b'm') => (&text[..text.len() - 1], 20),
@@ -85,9 +83,21 @@ pub fn number(text: &[u8]) -> Result<u32, String> {
         Some(digits) => (digits, 16),
         None => (digits, 10),
     };
-    if digits.is_empty() || !digits.chars().all(|c| c.is_digit(base)) {
-        return Err(wrong());
-    }
+    let sound = !digits.is_empty() && digits.chars().all(|c| c.is_digit(base));
+    sound.then_some((digits, base, shift))
+}
+
+/// Whether it is written as a number is, be it too large for one.
+pub fn is_number(text: &[u8]) -> bool {
+    parts(text).is_some()
+}
+
+/// A number as the command line takes it: base ten or 0x, then K, M or G for 2^10, 2^20, 2^30.
+pub fn number(text: &[u8]) -> Result<u32, String> {
+    let shown = shown(text);
+    let (digits, base, shift) = parts(text).ok_or_else(|| {
+        format!("{shown}: a number is wanted, in base ten or with 0x, with K, M or G")
+    })?;
     let large = || format!("{shown}: above 2^32 - 1 (4,294,967,295), the largest offset and size");
     let value = u64::from_str_radix(digits, base).map_err(|_| large())?;
     let value = value.checked_mul(1 << shift).ok_or_else(large)?;
@@ -148,6 +158,11 @@ fn letters_off(a: &str, b: &str) -> usize {
 pub fn wide(c: char) -> bool {
     matches!(c, '\u{2e80}'..='\u{9fff}' | '\u{f900}'..='\u{faff}' | '\u{ff01}'..='\u{ff60}'
         | '\u{ffe0}'..='\u{ffe6}')
+}
+
+/// How many columns of a terminal the text takes.
+pub fn width(text: &str) -> usize {
+    text.chars().map(|c| if wide(c) { 2 } else { 1 }).sum()
 }
 
 /// Whether a terminal or a page obeys a character and does not show it: controls, ends of lines, and what turns

@@ -4,7 +4,6 @@ use crate::call::{Call, Wish};
 use crate::disc::{Disc, Kind, Node};
 use crate::maximum::Maximum;
 use crate::names::{self, shown};
-use crate::record;
 use crate::text::{counted, grouped, size};
 use crate::trial::Trial;
 use counter_sys::MOST_PATH;
@@ -53,7 +52,7 @@ pub fn report(wish: &Wish, call: &Call, before: &Disc, trial: &Trial) -> Vec<u8>
     if old != new {
         let _ = writeln!(out, "table: {} -> {} bytes", grouped(old.into()), grouped(new.into()));
     }
-    out.extend(record::line(&trial.record, after.opened.disc_end).as_bytes());
+    out.extend(trial.turn.line(after.opened.disc_end).as_bytes());
     out
 }
 

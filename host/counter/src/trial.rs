@@ -1,6 +1,7 @@
 //! An edit tried out before the image is written: the proved call runs on a mapping that is written in
 //! memory only. It refuses as it would, and what it changed there is what the edit will write.
 
+use crate::account::{self, Spent, Turn};
 use crate::call::{Call, Wish, refused};
 use crate::change::Change;
 use crate::clip::Clip;
@@ -9,7 +10,7 @@ use crate::failure::{Failure, INTERNAL, Outcome};
 use crate::header::Header;
 use crate::image::{Desk, Image};
 use crate::maximum::{Maximum, explained, new_size};
-use counter_sys::{self as counter, Record};
+use counter_sys::{self as counter, Opened, Record};
 use std::ops::Range;
 
 pub struct Trial {
@@ -19,7 +20,7 @@ pub struct Trial {
     pub change: Change,
     /// The record as it goes in, and as it comes back.
     pub given: Record,
-    pub record: Record,
+    pub turn: Turn,
     /// Where the edit states another maximum, the table held against it.
     pub maximum: Option<Maximum>,
 }
@@ -30,19 +31,26 @@ pub fn try_out(
     image: &Image,
     desk: &mut Desk,
     before: &Disc,
-    given: Record,
+    mut turn: Turn,
 ) -> Outcome<Trial> {
     let mut copy = image.trial(&stand_ins(call, image, desk, before))?;
-    let mut record = given;
-    let found =
-        call.run(copy.bytes_mut(), desk.lend(), &mut record).map_err(|number| match number {
-            26 => above_maximum(wish, call, &mut copy, desk, before, given),
-            17 => {
-                let path = wish.path().unwrap_or_default();
-                refused(wish, 17).because(a_file_on(image, desk, path))
-            }
-            number => refused(wish, number),
-        })?;
+    let (given, team) = (turn.account.record, turn.team);
+    let record = &mut turn.account.record;
+    let found = call.run(copy.bytes_mut(), desk.lend(), record, team);
+    let found = found.map_err(|number| match number {
+        26 => above_maximum(wish, call, &mut copy, desk, before, (given, team)),
+        17 => {
+            let path = wish.path().unwrap_or_default();
+            refused(wish, 17).because(a_file_on(image, desk, path))
+        }
+        25 => turn.at_its_end(refused(wish, 25)),
+        27 | 28 => match spent(call, &mut copy, desk, before) {
+            Some(spent) if number == 27 => turn.above_limit(refused(wish, 27), &spent),
+            Some(spent) => turn.below_shares(refused(wish, 28), &spent),
+            None => refused(wish, number),
+        },
+        number => refused(wish, number),
+    })?;
     let after = Disc::read(&copy, desk)?;
     let table = before.opened.fst_offset as usize;
     let (old_size, new_size) = (before.opened.fst_size, after.opened.fst_size);
@@ -79,7 +87,7 @@ pub fn try_out(
         let text = format!("{}: libcounter would write where no edit writes", image.name);
         return Err(Failure::error(INTERNAL, text));
     }
-    Ok(Trial { found, after, change, given, record, maximum })
+    Ok(Trial { found, after, change, given, turn, maximum })
 }
 
 /// 26, with by how many bytes: whatever else could fail here leaves the number as it is.
@@ -89,7 +97,7 @@ fn above_maximum(
     copy: &mut Image,
     desk: &mut Desk,
     before: &Disc,
-    given: Record,
+    given: (Record, u32),
 ) -> Failure {
     let refusal = refused(wish, 26);
     let Ok(header) = Header::read(copy.bytes()) else { return refusal };
@@ -97,6 +105,15 @@ fn above_maximum(
     let Ok(anew) = table_anew(copy, desk) else { return refusal };
     let sizes = (before.opened.fst_size.into(), anew.len() as u64, after);
     explained(refusal, sizes, header.fst_maximum().into())
+}
+
+/// What the edit would do to the space: a record that refuses nothing tells it.
+fn spent(call: &Call, copy: &mut Image, desk: &mut Desk, before: &Disc) -> Option<Spent> {
+    let Opened { used: before, disc_end, .. } = before.opened;
+    let mut record = account::open(before);
+    call.run(copy.bytes_mut(), desk.lend(), &mut record, 0).ok()?;
+    let after = record.used;
+    Some(Spent { before, after, free: disc_end.saturating_sub(after) })
 }
 
 /// What the edit does to the file's bytes, told by its place before and after.

@@ -219,7 +219,7 @@ int main(void)
 fn the_header_compiles_alone_as_c_and_as_c_plus_plus() {
     let temp = Temp::new();
     let text = "#include \"counter.h\"\n#include \"counter.h\"\n\
-                int main(void) { return counter_cause(27) != 0 || counter_cause(0) == 0; }\n";
+                int main(void) { return counter_cause(29) != 0 || counter_cause(0) == 0; }\n";
     for (compiler, name, standard) in [
         ("cc", "alone.c", "-std=c99"),
         ("cc", "alone.c", "-std=c17"),

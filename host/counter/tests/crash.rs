@@ -464,6 +464,27 @@ fn cut_with_record(before: Vec<u8>, args: &[&str], seed: u64) {
     }
 }
 
+/// The same of a record with teams, where the edit costs its team so many bytes.
+fn cut_with_teams(before: Vec<u8>, args: &[&str], cost: u64, seed: u64) {
+    let mut bench = Bench::new(before.clone());
+    let text = |taken: u64, edits: u64| {
+        let table = Table::of(&bench.image);
+        format!(
+            "counter record 2\nused {} largest {} teams 2\nteam 3 limit none share 9 taken {taken} edits {edits} name \
+             desk\nteam 4 limit 0 share 1 taken 0 edits 7\n",
+            table.used(),
+            table.largest()
+        )
+    };
+    let old = text(5, 41);
+    let record = bench.record().to_str().unwrap().to_string();
+    done(args[0], &bench.image, &args[1..]);
+    let new = text(5 + cost, 42);
+    bench.record = Some((Some(old), new));
+    bench.lay(&Found::new(before.clone()));
+    cut_on(bench, &[args, &["--record", &record, "--team", "desk"]].concat(), seed);
+}
+
 /// Cuts a run that writes nothing but the record: it is the old one or the new one, and can be used.
 fn cut_record_alone(args: &[&str], old: Option<u64>, new: u64, seed: u64) {
     let mut bench = Bench::new(master(0));
@@ -641,6 +662,8 @@ fn a_record_goes_with_its_edit_through_a_power_cut() {
     let temp = Temp::new();
     let given = temp.write("given", &clip(0x700, 28));
     cut_with_record(master(0), &["fill", "next", given.to_str().unwrap()], 28);
+    cut_with_teams(master(0), &["mkdir", "e"], 14, 33);
+    cut_with_teams(master(0), &["move", "next", "0x2FFFE"], 0, 34);
 }
 
 #[test]

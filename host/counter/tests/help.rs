@@ -24,6 +24,10 @@ fn fixture() -> Temp {
     done("move", &disc, &["audio/theme.adp", "0x190000"]);
     temp.write("given.txt", b"/audio/theme.adp\n");
     temp.write("msg.bin", b"the new lines");
+    temp.write(
+        "teams.txt",
+        b"# number, limit, share, name\n0 none 256K English\n1 512K 128K French\n",
+    );
     temp.write("wishes.txt", b"/opening.bnr 0x1960\n/text/fr/lines.bin 4661\n");
     fs::create_dir_all(temp.at("parts/text")).unwrap();
     temp.write("parts/text/lines.bin", b"lines");
@@ -82,6 +86,8 @@ fn help_comes_in_every_way_and_is_about_its_command_alone() {
         "--anyway",
         "--without-record",
         "--record",
+        "--team",
+        "--teams",
         "--force",
         "--from",
         "--size",
@@ -214,6 +220,9 @@ fn bash_completes_commands_options_files_and_paths() {
         ["given.txt"]
     );
     assert_eq!(offered(&["counter", "move", "disc.iso", "--rec"]), ["--record"]);
+    assert_eq!(offered(&["counter", "move", "disc.iso", "--te"]), ["--team"]);
+    assert_eq!(offered(&["counter", "record", "disc.iso", "--teams", "te"]), ["teams.txt"]);
+    assert_eq!(offered(&["counter", "move", "--team", "1", "disc.iso", "/op"]), ["/opening.bnr"]);
     assert_eq!(
         offered(&["counter", "move", "--record", "given.txt", "disc.iso", "/op"]),
         ["/opening.bnr"]

@@ -286,7 +286,21 @@ fn with_sums(mut plan: Vec<u8>, mark: &[u8]) -> Vec<u8> {
 #[test]
 fn a_journal_writes_no_file_but_a_record() {
     let record = &b"counter record 1\nused 1 largest 1 edits 2\n"[..];
-    for (old, new) in [(&b""[..], &b"my notes\n"[..]), (b"my notes\n", record)] {
+    let teams =
+        &b"counter record 2\nused 1 largest 1 teams 1\nteam 0 limit 1 share 1 taken 1 edits 2\n"[..];
+    let torn = &teams[..teams.len() - 1];
+    let none = &b""[..];
+    // One with teams is over the same teams, and counts for one of them.
+    for (old, new) in [
+        (none, &b"my notes\n"[..]),
+        (b"my notes\n", record),
+        (b"my notes\n", teams),
+        (none, teams),
+        (none, torn),
+        (record, teams),
+        (teams, record),
+        (teams, teams),
+    ] {
         let cut = Cut::new();
         let file = cut.temp.at("notes");
         if !old.is_empty() {

@@ -1,7 +1,8 @@
 //! The calls, each with everything it is lent between margins, and what it promises of them held
 //! to afterwards: working memory zero; the image as it was, unless an edit was accepted; list words
 //! past the answer, and on a refusal all slots, lists and the record, as they were; after an accepted
-//! edit the record as the image's totals have moved; behind the disc end of a new master all as it was.
+//! edit the record as the image's totals have moved, and in it the edit's own team alone; behind the
+//! disc end of a new master all as it was.
 
 use crate::language::{Answer, Stop};
 use crate::zeros::Zeros;

@@ -840,6 +840,8 @@ fn teams() {
         (&["make_record 0 0,6822", "rewrite", "record"], "ok 1370 6656 0:0:0:1 0:6822:0:0 .."),
         (&["make_record 0 0,6823", "resize 1 255", "record"], "ok 1369 6657 0:0:0:1 0:6823:0:0 .."),
         (&["make_record 0 0,6824", "resize 1 255"], "err 28"),
+        (&["set_record 0 0 4294967295:0:4294967295:0", "resize 1 257"], "err 27"),
+        (&["set_record 0 0 4294967295:0:4294967294:0", "resize 1 257"], "ok"),
         // Shares are added up as whole numbers; its own plays no part, however large.
         (&["make_record 0 0,4294967295,1"], "ok 1370 6656 0:0:0:0 0:4294967295:0:0 0:1:0:0 .."),
         (&["rewrite"], "err 28"),

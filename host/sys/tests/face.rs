@@ -22,8 +22,8 @@ fn put(image: &mut [u8], at: usize, bytes: &[u8]) {
 /// The team that edits carry where nothing else is said.
 const TEAM: u32 = 5;
 
-/// A record with these numbers, the last two of that team, which may take anything. Each other one has numbers of its own, has
-/// taken its share, and cannot make an edit more.
+/// A record with these numbers, the last two of that team, which may take anything. Each other team has numbers of its
+/// own, has taken its share, and cannot make an edit more.
 fn record(used: u32, largest: u32, taken: u32, edits: u32) -> Record {
     let other = |k: u32| Team { limit: k, share: 100 + k, taken: 200 + k, edits: u32::MAX };
     let mut teams = array::from_fn(|k| other(k as u32));
@@ -416,8 +416,8 @@ const EDITS: [(Edit, i64); 10] = [
     (|i, m, r, team| counter_sys::rewrite(i, m, r, team), 0),
 ];
 
-/// Each edit at the bounds of 27, 28 and 25, by the first team, one between and the last; and by one that there is not. What is
-/// refused gives back all of the record.
+/// Each edit at the bounds of 27, 28 and 25, by the first team, one between and the last; and by one that there is not.
+/// What is refused gives back all of the record.
 #[test]
 fn an_edit_of_a_team() {
     const MOST: u32 = u32::MAX;
@@ -470,6 +470,13 @@ fn an_edit_of_a_team() {
             by(&|record| record.teams[own] = Team { limit: MOST, share: 0, taken: 1, edits: 0 });
         let taken = u32::try_from((1 + cost).max(0)).unwrap();
         assert_eq!(less.unwrap().teams[own], Team { limit: MOST, share: 0, taken, edits: 1 });
+        // As much taken as a number holds, and a byte more.
+        let open = |taken| Team { limit: MOST, share: 0, taken, edits: 0 };
+        let room = MOST - u32::try_from(cost.max(0)).unwrap();
+        assert!(by(&|record| record.teams[own] = open(room)).is_ok());
+        if room < MOST {
+            assert_eq!(by(&|record| record.teams[own] = open(room + 1)), Err(27));
+        }
         // Its count, and used bytes.
         assert_eq!(by(&|record| record.teams[own].edits = MOST), Err(25));
         assert_eq!(

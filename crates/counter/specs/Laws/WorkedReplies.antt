@@ -1,12 +1,12 @@
 -- One reply of each kind, by computing: every slot holds a number of its own, in the order that host/include/counter.h gives them, so that the
 -- order is said twice. Assumes nothing.
-use Rattle.std.specs.Prelude.{Some, None, Ok, Err, ℕ, zero, suc, ◌≡◌, refl, List, [], ◌∷◌}
+use Rattle.std.specs.Prelude.{Some, None, Ok, Err, ℕ, zero, suc, ◌+◌, ◌≡◌, refl, List, [], ◌∷◌}
 use Rattle.refusal.specs.declared.Refusal.TheVariants.{LimitOrMemory, InvalidNameByte, NoSuchEntry, ExpectedFile, NotFound, NotEnoughSpace, InvalidSeek, InvalidDol, TotalsOutOfRange, OverlappingRegions}
 use Rattle.tree.specs.declared.Entry.TheVariants.{File, Directory}
 use Rattle.tree.specs.declared.Found.TheVariants as found
 use Rattle.executable.specs.declared.dol.DolHeader.{DolHeader}
+use Rattle.totals.specs.declared.team.Team.{Team}
 use Rattle.totals.specs.declared.Totals.{Totals}
-use Rattle.totals.specs.Totals.{totals_in}
 use Rattle.window.specs.declared.Window.{Window}
 use Rattle.opened.specs.declared.faults.Owner.TheVariants as owner
 use Rattle.opened.specs.declared.faults.About.TheVariants as about
@@ -73,13 +73,20 @@ window-slots :
     (reply_of window_words old (Ok a_window) ≡ reply 0 (1 ∷ 2 ∷ 3 ∷ []))
 window-slots = (refl, refl)
 
--- the record: "three slots, used bytes, the size of the largest free region (0 if there is none), and how many edits were accepted"
+-- the record: 66 slots, used bytes, the size of the largest free region (0 if there is none), and of each of 16 teams its limit, its share, what
+-- it has taken, and how many of its edits were accepted
+
+-- n teams, with numbers from a on
+teams_rising : ℕ → ℕ → List Team
+teams_rising a zero = []
+teams_rising a (suc n) = record { limit = a; share = a + 1; taken = a + 2; edits = a + 3 } ∷ teams_rising (a + 4) n
 
 abbrev a_record : Totals
-a_record = record { used = 1; largest = 2; edits = 3 }
+a_record = record { used = 1; largest = 2; teams = teams_rising 3 16 }
 
-record-slots : (totals_in (1 ∷ 2 ∷ 3 ∷ []) ≡ a_record) × (reply_of totals_words old (Ok a_record) ≡ reply 0 (1 ∷ 2 ∷ 3 ∷ []))
-record-slots = (refl, refl)
+record-slots : reply_of totals_words old (Ok a_record) ≡ reply 0 (rising 1 66)
+unfolding rising teams_rising
+record-slots = refl
 
 -- "header[57]: 7 text and 11 data offsets, 7 and 11 addresses, 7 and 11 sizes, BSS address, BSS size, entry point. window[3]: .."
 

@@ -10,9 +10,8 @@ use Rattle.refusal.specs.Laws.Chains.{first-passed}
 use Rattle.tree.specs.Table.{file, empty_root}
 use Rattle.tree.specs.Lookup.{is_directory}
 use Rattle.space.specs.declared.region.DiscRegion.{DiscRegion}
-use Rattle.totals.specs.declared.Totals.{Totals}
 use Rattle.opened.specs.Opening.{nodes_in, free_space_of, opening}
-use Rattle.edit_rules.specs.Edits.{Edit, insert_file, insert_directory, make_directories, move_file, resize_file, fill_file, rewrite, file_verdict, relocate_verdict, clip_verdict, plan_move, plan_resize, plan_fill, verdict_of, image_after}
+use Rattle.edit_rules.specs.Edits.{Edit, Account, insert_file, insert_directory, make_directories, move_file, resize_file, fill_file, rewrite, file_verdict, relocate_verdict, clip_verdict, plan_move, plan_resize, plan_fill, verdict_of, image_after}
 use Rattle.edit_rules.proofs.Laws.Accepted.{accepted}
 use Rattle.ledger.specs.Ledger.{Ledger, files_before, first_ledger, ledger_with, Report, ledger_after}
 use Rattle.ledger.specs.Runs.{Call, reports_of, AllWithin}
@@ -36,28 +35,28 @@ module _ (w : ℕ) (image : List ℕ) (l : Ledger) (K : Kept w image l) (words b
   kind-is k v = rw (← K.shape) (kind-node_without_place (nodes_in image) k ∙ is-file (nodes_in image) k v)
 
   -- the entry is a file, or it is 16
-  of-file : (totals : Totals) (ed : Edit) → verdict_of ed totals image words bytes ≡ Ok tt → IsOfFile ed l
+  of-file : (account : Account) (ed : Edit) → verdict_of ed account image words bytes ≡ Ok tt → IsOfFile ed l
   unfolding plan_move plan_resize plan_fill
-  of-file totals (insert_file p nm) v = tt
-  of-file totals (insert_directory p nm) v = tt
-  of-file totals (make_directories from path) v = tt
-  of-file totals (move_file k to) v =
+  of-file account (insert_file p nm) v = tt
+  of-file account (insert_directory p nm) v = tt
+  of-file account (make_directories from path) v = tt
+  of-file account (move_file k to) v =
       let new : DiscRegion = record { offset = to; size = (place_in image k).size } in
-      let t = passed-plan (first (file_verdict (nodes_in image) k) (relocate_verdict (free_space_of image) (place_in image k) new)) _ image words bytes (accepted (move_file k to) totals image words bytes v).own in
+      let t = passed-plan (first (file_verdict (nodes_in image) k) (relocate_verdict (free_space_of image) (place_in image k) new)) _ image words bytes (accepted (move_file k to) account image words bytes v).own in
       kind-is k (first-passed (file_verdict (nodes_in image) k) _ t.0).0
-  of-file totals (resize_file k n) v = kind-is k (passed-plan (file_verdict (nodes_in image) k) _ image words bytes (accepted (resize_file k n) totals image words bytes v).own).0
-  of-file totals (fill_file k clip) v =
-      let t = passed-plan (clip_verdict (nodes_in image) k (length clip)) _ image words bytes (accepted (fill_file k clip) totals image words bytes v).own in
+  of-file account (resize_file k n) v = kind-is k (passed-plan (file_verdict (nodes_in image) k) _ image words bytes (accepted (resize_file k n) account image words bytes v).own).0
+  of-file account (fill_file k clip) v =
+      let t = passed-plan (clip_verdict (nodes_in image) k (length clip)) _ image words bytes (accepted (fill_file k clip) account image words bytes v).own in
       kind-is k (first-passed (file_verdict (nodes_in image) k) _ t.0).0
-  of-file totals rewrite v = tt
+  of-file account rewrite v = tt
 
 of-files : (w : ℕ) (calls : List Call) (image : List ℕ) (l : Ledger) → AllWithin w calls → Kept w image l → OfFiles (reports_of calls image) l
 unfolding reports_of
 of-files w [] image l a K = tt
 of-files w (c ∷ calls) image l a K = (
-  λ e. of-file w image l K c.words c.bytes c.totals c.edit (accepted-passed (verdict_of c.edit c.totals image c.words c.bytes) e),
-  of-files w calls (image_after c.edit c.totals image c.words c.bytes) (cond (not (is_err (verdict_of c.edit c.totals image c.words c.bytes))) (ledger_with c.edit l) l) a.2
-      (step w image l K c.words c.bytes a.0 c.totals c.edit a.1),
+  λ e. of-file w image l K c.words c.bytes c.account c.edit (accepted-passed (verdict_of c.edit c.account image c.words c.bytes) e),
+  of-files w calls (image_after c.edit c.account image c.words c.bytes) (cond (not (is_err (verdict_of c.edit c.account image c.words c.bytes))) (ledger_with c.edit l) l) a.2
+      (step w image l K c.words c.bytes a.0 c.account c.edit a.1),
 )
 
 -- LAW: the reports of any list of calls

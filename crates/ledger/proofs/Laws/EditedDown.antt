@@ -18,14 +18,13 @@ use Rattle.space.specs.Laws.GrowthLaws.{table-largest}
 use Rattle.opened.specs.Opening.{table_of, nodes_in, free_space_of, opening, disc_of}
 use Rattle.opened.specs.Inner.Prepared.{IsOpenImage}
 use Rattle.opened.proofs.Laws.OpeningLaws.{opens}
-use Rattle.disc.specs.Calls.{totals_of}
 use Rattle.edit_rules.specs.Change.{table_verdict}
-use Rattle.edit_rules.specs.Edits.{rewrite, plan_of, plan_verdict, verdict_of, image_after}
+use Rattle.edit_rules.specs.Edits.{Account, rewrite, plan_of, plan_verdict, verdict_of, image_after}
 use Rattle.edit_rules.proofs.Laws.PlaceTests.{stated-apart}
 use Rattle.ledger.proofs.Laws.Files.{places_in}
-use Rattle.ledger.proofs.Laws.RecordTells.{own-record}
 use Rattle.ledger.proofs.Laws.Room.{free-places}
 use Rattle.ledger.proofs.Laws.TreeAfter.{arrives}
+use Rattle.ledger.proofs.Laws.Unbounded.{IsUnbounded, own-record}
 
 -- the table is above the maximum, the tree written anew is not, and the working bytes hold it
 module _ (image : List ℕ) (words bytes : ℕ) (b : AllBytes image) (e : opening image words ≡ Ok tt) (above : fst_max_size image < fst_size image) (down : length (encode (nodes_in image)) ≤ fst_max_size image) (held : length (encode (nodes_in image)) ≤ bytes) where
@@ -54,13 +53,13 @@ module _ (image : List ℕ) (words bytes : ℕ) (b : AllBytes image) (e : openin
       let size : ℕ = length (encode (nodes_in image)) in
       rw (within, stated-apart image bytes size no_region (inr down), le-ltb bytes size held, le-ltb (max_region_size (fst_offset image) (fst_size image) (free_space_of image)) size grows)
 
-  -- THEOREM: with a record that is the image's, and a count that can rise, a rewrite is accepted, leaves the tree as it is and its table within the maximum
-  pub edited-down : (n : ℕ) → n + 1 < 2 ^ 32 →
-      (verdict_of rewrite (totals_of image n) image words bytes ≡ Ok tt)
-      × (nodes_in (image_after rewrite (totals_of image n) image words bytes) ≡ nodes_in image)
-      × (fst_size (image_after rewrite (totals_of image n) image words bytes) ≤ fst_max_size image)
+  -- THEOREM: with an account that stops no edit a rewrite is accepted, leaves the tree as it is and its table within the maximum
+  pub edited-down : (a : Account) → IsUnbounded image a →
+      (verdict_of rewrite a image words bytes ≡ Ok tt)
+      × (nodes_in (image_after rewrite a image words bytes) ≡ nodes_in image)
+      × (fst_size (image_after rewrite a image words bytes) ≤ fst_max_size image)
   unfolding image_after
-  edited-down n h =
-      let v : verdict_of rewrite (totals_of image n) image words bytes ≡ Ok tt = own-record image words bytes b e rewrite tt n h ∙ passes in
-      let a = arrives image words bytes b e rewrite tt passes in
-      (v, rw v a.0, rw v (omega (arith, a.2.table)))
+  edited-down a u =
+      let v : verdict_of rewrite a image words bytes ≡ Ok tt = own-record image words bytes b e rewrite tt a u ∙ passes in
+      let z = arrives image words bytes b e rewrite tt passes in
+      (v, rw v z.0, rw v (omega (arith, z.2.table)))

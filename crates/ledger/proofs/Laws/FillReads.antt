@@ -9,12 +9,11 @@ use borrow.Author.Tests.{lt-ltb}
 use Rattle.endian.specs.Bytes.{put, AllBytes}
 use Rattle.refusal.specs.Laws.Tests.{lt-or-le}
 use Rattle.tree.specs.Table.{Node, file, empty_root}
-use Rattle.totals.specs.declared.Totals.{Totals}
 use Rattle.window.specs.Window.{new_window, count_of, buffer_of}
 use Rattle.disc.specs.Files.{open_file_answer, entry_answer}
 use Rattle.opened.specs.Opening.{nodes_in, free_space_of, opening}
 use Rattle.edit_rules.specs.Change.{filled}
-use Rattle.edit_rules.specs.Edits.{fill_file, clip_verdict, plan_resize, plan_fill, plan_image, verdict_of, image_after}
+use Rattle.edit_rules.specs.Edits.{Account, fill_file, clip_verdict, plan_resize, plan_fill, plan_image, verdict_of, image_after}
 use Rattle.edit_rules.proofs.Laws.Accepted.{accepted}
 use Rattle.ledger.specs.Ledger.{Ledger, first_ledger}
 use Rattle.ledger.specs.Theorem.{ShowsClip, FillReads}
@@ -50,14 +49,14 @@ module _ (image : List ℕ) (w k : ℕ) (opens : opening image w ≡ Ok tt) (nm 
 -- THEOREM
 pub fill-reads : FillReads
 unfolding image_after plan_fill
-fill-reads totals image clip k words bytes w b c lent v =
-    let e = accepted (fill_file k clip) totals image words bytes v in
+fill-reads account image clip k words bytes w b c lent v =
+    let e = accepted (fill_file k clip) account image words bytes v in
     let l : Ledger = first_ledger image in
     let K : Kept w image l = start image words w lent b e.opens in
     let q = passed-plan (clip_verdict (nodes_in image) k (length clip)) (filled k clip (plan_resize (free_space_of image) (nodes_in image) k (length clip))) image words bytes e.own in
     let s = fill_shows w image l K words bytes lent k clip c q.0 q.1 in
-    let i : image_after (fill_file k clip) totals image words bytes ≡ with_clip (plan_image (plan_resize (free_space_of image) (nodes_in image) k (length clip)) image) k clip = rw v (fill_is w image l K words bytes lent k clip c q.0 q.1) in
-    rw i (shows _ w k (rw i at (step w image l K words bytes lent totals (fill_file k clip) c).opens) s.0 _ clip s.1 s.2)
+    let i : image_after (fill_file k clip) account image words bytes ≡ with_clip (plan_image (plan_resize (free_space_of image) (nodes_in image) k (length clip)) image) k clip = rw v (fill_is w image l K words bytes lent k clip c q.0 q.1) in
+    rw i (shows _ w k (rw i at (step w image l K words bytes lent account (fill_file k clip) c).opens) s.0 _ clip s.1 s.2)
 
 -- what opening file k and reading all of it puts in front of a buffer
 abbrev pub read_into : Result Window Refusal → List ℕ → List ℕ → List ℕ
@@ -65,6 +64,6 @@ read_into (Ok win) image buffer = buffer_of win image buffer
 read_into (Err c) image buffer = buffer
 
 -- THEOREM: the file is opened and read: the clip, and the rest of the buffer as it was
-pub read_back : (totals : Totals) (image clip : List ℕ) (k words bytes w : ℕ) → AllBytes image → AllBytes clip → words ≤ w → verdict_of (fill_file k clip) totals image words bytes ≡ Ok tt → (buffer : List ℕ) → length clip ≤ length buffer →
-    read_into (open_file_answer (image_after (fill_file k clip) totals image words bytes) w k) (image_after (fill_file k clip) totals image words bytes) buffer ≡ put buffer 0 clip
-read_back totals image clip k words bytes w b c lent v buffer h = let s = fill-reads totals image clip k words bytes w b c lent v in rw s.window (s.bytes buffer h)
+pub read_back : (account : Account) (image clip : List ℕ) (k words bytes w : ℕ) → AllBytes image → AllBytes clip → words ≤ w → verdict_of (fill_file k clip) account image words bytes ≡ Ok tt → (buffer : List ℕ) → length clip ≤ length buffer →
+    read_into (open_file_answer (image_after (fill_file k clip) account image words bytes) w k) (image_after (fill_file k clip) account image words bytes) buffer ≡ put buffer 0 clip
+read_back account image clip k words bytes w b c lent v buffer h = let s = fill-reads account image clip k words bytes w b c lent v in rw s.window (s.bytes buffer h)

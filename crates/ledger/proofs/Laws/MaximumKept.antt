@@ -11,10 +11,9 @@ use Rattle.header.specs.Verdicts.{fst_size, fst_max_size}
 use Rattle.tree.specs.Table.{encode, limits}
 use Rattle.opened.specs.Opening.{table_of, disc_of}
 use Rattle.edit_rules.specs.Change.{Change, table_verdict, Plan, refused, nothing, change, filled}
-use Rattle.edit_rules.specs.Edits.{Edit, plan_of, plan_verdict, plan_image, verdict_of, image_after}
+use Rattle.edit_rules.specs.Edits.{Edit, Account, plan_of, plan_verdict, plan_image, verdict_of, image_after}
 use Rattle.edit_rules.proofs.Laws.Accepted.{accepted}
 use Rattle.edit_rules.proofs.Laws.PlaceTests.{place-passed}
-use Rattle.totals.specs.declared.Totals.{Totals}
 use Rattle.ledger.specs.Ledger.{Ledger, first_ledger, ledger_with}
 use Rattle.ledger.specs.Runs.{Call, image_after_all, IsPassable, AllWithin}
 use Rattle.ledger.specs.Theorem.{WithinMaximum, MaximumKept}
@@ -58,13 +57,13 @@ laid-within (change k c) image image' words bytes v l = kept-within image image'
 laid-within (filled k clip p) image image' words bytes v l = laid-within p image image' words bytes v l
 
 -- LAW: accepted or refused
-pub call-within : (ed : Edit) (totals : Totals) (image : List ℕ) (words bytes : ℕ) → AllBytes image → IsPassable ed → WithinMaximum image (image_after ed totals image words bytes)
+pub call-within : (ed : Edit) (account : Account) (image : List ℕ) (words bytes : ℕ) → AllBytes image → IsPassable ed → WithinMaximum image (image_after ed account image words bytes)
 unfolding image_after
-call-within ed totals image words bytes b h = go (verdict_of ed totals image words bytes) refl
+call-within ed account image words bytes b h = go (verdict_of ed account image words bytes) refl
   where
-    go : (v : Verdict) → verdict_of ed totals image words bytes ≡ v → WithinMaximum image (cond (is_err v) image (plan_image (plan_of ed (disc_of image)) image))
+    go : (v : Verdict) → verdict_of ed account image words bytes ≡ v → WithinMaximum image (cond (is_err v) image (plan_image (plan_of ed (disc_of image)) image))
     go (Ok tt) e =
-        let a = accepted ed totals image words bytes e in
+        let a = accepted ed account image words bytes e in
         laid-within (plan_of ed (disc_of image)) image (plan_image (plan_of ed (disc_of image)) image) words bytes a.own (arrives image words bytes b a.opens ed h a.own).2
     go (Err c) e = same image
 
@@ -74,9 +73,9 @@ within-along : (w : ℕ) (calls : List Call) (image : List ℕ) (l : Ledger) →
 unfolding image_after_all
 within-along w [] image l a k = same image
 within-along w (c ∷ calls) image l a k =
-    let next : List ℕ = image_after c.edit c.totals image c.words c.bytes in
-    trans image next (image_after_all calls next) (call-within c.edit c.totals image c.words c.bytes k.bytes a.1)
-    (within-along w calls next (cond (not (is_err (verdict_of c.edit c.totals image c.words c.bytes))) (ledger_with c.edit l) l) a.2 (step w image l k c.words c.bytes a.0 c.totals c.edit a.1))
+    let next : List ℕ = image_after c.edit c.account image c.words c.bytes in
+    trans image next (image_after_all calls next) (call-within c.edit c.account image c.words c.bytes k.bytes a.1)
+    (within-along w calls next (cond (not (is_err (verdict_of c.edit c.account image c.words c.bytes))) (ledger_with c.edit l) l) a.2 (step w image l k c.words c.bytes a.0 c.account c.edit a.1))
 
 -- THEOREM
 pub maximum-kept : MaximumKept

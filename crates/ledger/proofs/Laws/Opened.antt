@@ -1,11 +1,12 @@
--- What an image that opens is, what opens, and that more words open it too, and those that its entries ask for. Assumes nothing.
-use Rattle.std.specs.Prelude.{Ok}
-use Rattle.std.specs.Prelude.{ℕ, ◌+◌, ◌-◌, ◌*◌, ◌≤◌, ◌≡◌, ◌⊎◌, true, List, ◌∷◌, length, ltb, eqb}
-use Rattle.std.proofs.Common.{inl, inr, ⊎_elim, arith, ltb-false, le-ltb}
+-- What an image that opens is, what opens, and that more words open it too, and those that its entries ask for, and fewer are refused with 9. Assumes nothing.
+use Rattle.std.specs.Prelude.{Ok, Err}
+use Rattle.std.specs.Prelude.{ℕ, ◌+◌, ◌-◌, ◌*◌, ◌<◌, ◌≤◌, ◌≡◌, ◌⊎◌, true, List, ◌∷◌, length, ltb, eqb}
+use Rattle.std.proofs.Common.{inl, inr, ⊎_elim, arith, ltb-false, le-ltb, lt-ltb}
 use Rattle.endian.specs.Bytes.{AllBytes}
 use Rattle.refusal.specs.declared.Refusal.TheVariants.{EntryPastTable, UnrecognizedKind, RootIsNotDirectory, MissingNullTerminator, LimitOrMemory}
 use Rattle.refusal.specs.Laws.Chains.{refuse-passed, first-passed}
-use Rattle.header.specs.Verdicts.{disc_end, table_end}
+use Rattle.refusal.specs.Laws.Tests.{lt-or-le}
+use Rattle.header.specs.Verdicts.{header_verdict, bounds_verdict, disc_end, table_end}
 use Rattle.header.specs.Laws.FieldTests.{GoodHeader, Bounded, header-passes, bounds-pass}
 use Rattle.tree.specs.Table.{Node, kind, count, entries_verdict, is_unended, check, limits}
 use Rattle.tree.specs.Inner.WellFormed.{IsWellFormed}
@@ -65,6 +66,22 @@ other-check tab w w' h e =
     let r : 4 * (c + 2) ≤ w = ltb-false _ _ e₈.0 in
     rw (e₁.0, e₂.0, e₃.0, e₄.0, e₅.0, e₆.0, e₇.0, le-ltb w' (4 * (c + 2)) (⊎_elim (λ z. omega arith) (λ z. z) h)) e₈.1
 
+few-words : (tab : List ℕ) (w words : ℕ) → words < 4 * (count tab + 2) → check tab w ≡ Ok tt → check tab words ≡ Err LimitOrMemory
+unfolding check
+few-words tab w words short e =
+    let c : ℕ = count tab in
+    let e₁ = refuse-passed (ltb (length tab) 12) EntryPastTable _ e in
+    let e₂ = refuse-passed (ltb 1 (kind tab 0)) UnrecognizedKind _ e₁.1 in
+    let e₃ = refuse-passed (eqb (kind tab 0) 0) RootIsNotDirectory _ e₂.1 in
+    let e₄ = refuse-passed (ltb 16384 c) LimitOrMemory _ e₃.1 in
+    let e₅ = first-passed (entries_verdict tab 1 (c - 1)) _ e₄.1 in
+    let e₆ = refuse-passed (is_unended tab c) MissingNullTerminator _ e₅.1 in
+    let e₇ = refuse-passed (ltb 1048576 (length tab - 12 * c)) LimitOrMemory _ e₆.1 in
+    rw (e₁.0, e₂.0, e₃.0, e₄.0, e₅.0, e₆.0, e₇.0, lt-ltb words (4 * (c + 2)) short)
+
+any-check : (tab : List ℕ) (w words : ℕ) → check tab w ≡ Ok tt → (check tab words ≡ Ok tt) ⊎ (check tab words ≡ Err LimitOrMemory)
+any-check tab w words e = ⊎_elim (λ short. inr (few-words tab w words short e)) (λ held. inl (other-check tab w words (inr held) e)) (lt-or-le words (4 * (count tab + 2)))
+
 other-words : (image : List ℕ) (w w' : ℕ) → (w ≤ w') ⊎ (4 * (count (table_of image) + 2) ≤ w') → AllBytes image → opening image w ≡ Ok tt → opening image w' ≡ Ok tt
 other-words image w w' h b e =
     let o = opened image w e b in
@@ -76,6 +93,15 @@ more-words image w w' h = other-words image w w' (inl h)
 -- LAW: 4 × (entries + 2) words are enough for every image that opens, with a program behind the table too
 pub enough-words : (image : List ℕ) (w : ℕ) → AllBytes image → opening image w ≡ Ok tt → opening image (4 * (count (table_of image) + 2)) ≡ Ok tt
 enough-words image w = other-words image w (4 * (count (table_of image) + 2)) (inr (omega arith))
+
+-- LAW: lent other words, an image that opens with some is refused for want of words alone
+pub any-words : (image : List ℕ) (w words : ℕ) → opening image w ≡ Ok tt → (opening image words ≡ Ok tt) ⊎ (opening image words ≡ Err LimitOrMemory)
+unfolding opening
+any-words image w words e =
+    let p = first-passed (header_verdict image) _ e in
+    let q = first-passed (bounds_verdict image) _ p.1 in
+    let r = first-passed (check (table_of image) w) _ q.1 in
+    ⊎_elim (λ (o : check (table_of image) words ≡ Ok tt). inl (rw (p.0, q.0, o) r.1)) (λ (o : check (table_of image) words ≡ Err LimitOrMemory). inr (rw (p.0, q.0, o))) (any-check (table_of image) w words r.0)
 
 more-limits : (nodes : List Node) (w w' : ℕ) → w ≤ w' → limits nodes w ≡ Ok tt → limits nodes w' ≡ Ok tt
 more-limits nodes w w' h e =

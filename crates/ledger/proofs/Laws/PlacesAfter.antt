@@ -24,10 +24,9 @@ use Rattle.space.specs.MaxRegionSize.{max_region_size}
 use Rattle.space.specs.Allocate.{allocation_of}
 use Rattle.space.specs.Laws.AllocateLaws.{found-region}
 use Rattle.header.specs.Verdicts.{disc_end}
-use Rattle.totals.specs.declared.Totals.{Totals}
 use Rattle.opened.specs.Opening.{nodes_in, used_in, free_space_of, region_of, disc_of}
 use Rattle.edit_rules.specs.Change.{Plan, nothing, change, filled}
-use Rattle.edit_rules.specs.Edits.{move_file, resize_file, fill_file, plan_behind, file_verdict, relocation_change, relocate_verdict, plan_move, resize_change, plan_elsewhere, clip_verdict, plan_resize, plan_fill, plan_verdict, plan_tree, verdict_of, image_after}
+use Rattle.edit_rules.specs.Edits.{Account, move_file, resize_file, fill_file, plan_behind, file_verdict, relocation_change, relocate_verdict, plan_move, resize_change, plan_elsewhere, clip_verdict, plan_resize, plan_fill, plan_verdict, plan_tree, verdict_of, image_after}
 use Rattle.edit_rules.proofs.Laws.Accepted.{accepted}
 use Rattle.ledger.proofs.Laws.TreeAfter.{tree-after}
 
@@ -60,7 +59,7 @@ same_place : (nodes : List Node) (k : ℕ) (nm : List ℕ) (o n : ℕ) → get_o
 unfolding set_place
 same_place nodes k nm o n e = rw e (rw e at (set-get_or nodes k empty_root))
 
-module _ (totals : Totals) (image : List ℕ) (words bytes : ℕ) (b : AllBytes image) (k : ℕ) (nm : List ℕ) (offset size : ℕ) (here : get_or (nodes_in image) k empty_root ≡ file nm offset size) where
+module _ (account : Account) (image : List ℕ) (words bytes : ℕ) (b : AllBytes image) (k : ℕ) (nm : List ℕ) (offset size : ℕ) (here : get_or (nodes_in image) k empty_root ≡ file nm offset size) where
   place_is : region_of (get_or (nodes_in image) k empty_root) ≡ record { offset = offset; size = size }
   place_is = rw here
 
@@ -71,16 +70,16 @@ module _ (totals : Totals) (image : List ℕ) (words bytes : ℕ) (b : AllBytes 
   }
 
   -- THEOREM: an accepted move of the file to `to`
-  pub moved : (to : ℕ) → to < 2 ^ 32 → verdict_of (move_file k to) totals image words bytes ≡ Ok tt → PlacedAt image (image_after (move_file k to) totals image words bytes) k nm to size
+  pub moved : (to : ℕ) → to < 2 ^ 32 → verdict_of (move_file k to) account image words bytes ≡ Ok tt → PlacedAt image (image_after (move_file k to) account image words bytes) k nm to size
   unfolding plan_move
   moved to h v =
       let old : DiscRegion = region_of (get_or (nodes_in image) k empty_root) in
       let new : DiscRegion = record { offset = to; size = old.size } in
       let t = first (file_verdict (nodes_in image) k) (relocate_verdict (free_space_of image) old new) in
-      let p = passed-plan t (change k (relocation_change (nodes_in image) k old new)) image words bytes (accepted (move_file k to) totals image words bytes v).own in
-      let e : nodes_in (image_after (move_file k to) totals image words bytes) ≡ set_place k to size (nodes_in image) =
-      tree-after (move_file k to) totals image words bytes b h v ∙ ap (λ (x : Plan). plan_tree x (nodes_in image)) p.2 ∙ rw here in
-      placed_at (image_after (move_file k to) totals image words bytes) to size (file-number (nodes_in image) k (first-passed (file_verdict (nodes_in image) k) _ p.0).0) e
+      let p = passed-plan t (change k (relocation_change (nodes_in image) k old new)) image words bytes (accepted (move_file k to) account image words bytes v).own in
+      let e : nodes_in (image_after (move_file k to) account image words bytes) ≡ set_place k to size (nodes_in image) =
+      tree-after (move_file k to) account image words bytes b h v ∙ ap (λ (x : Plan). plan_tree x (nodes_in image)) p.2 ∙ rw here in
+      placed_at (image_after (move_file k to) account image words bytes) to size (file-number (nodes_in image) k (first-passed (file_verdict (nodes_in image) k) _ p.0).0) e
 
   -- ---- a resize
 
@@ -127,23 +126,23 @@ module _ (totals : Totals) (image : List ℕ) (words bytes : ℕ) (b : AllBytes 
         away r q (leb-false n size o.0) (leb-false n _ o.1) (w ∙ ap (λ (x : Plan). plan_tree x (nodes_in image)) p.2)
 
   -- THEOREM: an accepted resize of the file to n bytes
-  pub sized : (n : ℕ) → n < 2 ^ 32 → verdict_of (resize_file k n) totals image words bytes ≡ Ok tt → ResizedTo image (image_after (resize_file k n) totals image words bytes) k nm offset size n
+  pub sized : (n : ℕ) → n < 2 ^ 32 → verdict_of (resize_file k n) account image words bytes ≡ Ok tt → ResizedTo image (image_after (resize_file k n) account image words bytes) k nm offset size n
   unfolding plan_resize
   sized n h v =
-      let after : List ℕ = image_after (resize_file k n) totals image words bytes in
-      let p = passed-plan (file_verdict (nodes_in image) k) _ image words bytes (accepted (resize_file k n) totals image words bytes v).own in
-      let t = tree-after (resize_file k n) totals image words bytes b h v ∙ ap (λ (x : Plan). plan_tree x (nodes_in image)) p.2 in
+      let after : List ℕ = image_after (resize_file k n) account image words bytes in
+      let p = passed-plan (file_verdict (nodes_in image) k) _ image words bytes (accepted (resize_file k n) account image words bytes v).own in
+      let t = tree-after (resize_file k n) account image words bytes b h v ∙ ap (λ (x : Plan). plan_tree x (nodes_in image)) p.2 in
       by_cases n after (file-number (nodes_in image) k p.0) (eqb n size) refl (leb n size || leb n (max_region_size offset size (free_space_of image))) refl (allocation_of 0x8000 n (free_space_of image)) refl
       (rw place_is at p.1) (rw place_is at t)
 
   -- THEOREM: an accepted fill of the file: it lies where a resize to the clip's length would leave it
-  pub filled-to : (clip : List ℕ) → AllBytes clip → verdict_of (fill_file k clip) totals image words bytes ≡ Ok tt → ResizedTo image (image_after (fill_file k clip) totals image words bytes) k nm offset size (length clip)
+  pub filled-to : (clip : List ℕ) → AllBytes clip → verdict_of (fill_file k clip) account image words bytes ≡ Ok tt → ResizedTo image (image_after (fill_file k clip) account image words bytes) k nm offset size (length clip)
   unfolding plan_resize plan_fill
   filled-to clip c v =
       let n : ℕ = length clip in
-      let after : List ℕ = image_after (fill_file k clip) totals image words bytes in
-      let f = passed-plan (clip_verdict (nodes_in image) k n) (filled k clip (plan_resize (free_space_of image) (nodes_in image) k n)) image words bytes (accepted (fill_file k clip) totals image words bytes v).own in
+      let after : List ℕ = image_after (fill_file k clip) account image words bytes in
+      let f = passed-plan (clip_verdict (nodes_in image) k n) (filled k clip (plan_resize (free_space_of image) (nodes_in image) k n)) image words bytes (accepted (fill_file k clip) account image words bytes v).own in
       let p = passed-plan (file_verdict (nodes_in image) k) _ image words bytes f.1 in
-      let t = tree-after (fill_file k clip) totals image words bytes b c v ∙ ap (λ (x : Plan). plan_tree x (nodes_in image)) f.2 ∙ ap (λ (x : Plan). plan_tree x (nodes_in image)) p.2 in
+      let t = tree-after (fill_file k clip) account image words bytes b c v ∙ ap (λ (x : Plan). plan_tree x (nodes_in image)) f.2 ∙ ap (λ (x : Plan). plan_tree x (nodes_in image)) p.2 in
       by_cases n after (file-number (nodes_in image) k p.0) (eqb n size) refl (leb n size || leb n (max_region_size offset size (free_space_of image))) refl (allocation_of 0x8000 n (free_space_of image)) refl
       (rw place_is at p.1) (rw place_is at t)

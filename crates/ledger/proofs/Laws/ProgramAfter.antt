@@ -11,7 +11,7 @@ use Rattle.executable.specs.Program.{program_of, program_in}
 use Rattle.executable.specs.Laws.ProgramLaws.{Accepted, absent, present, accepted, own-cases}
 use Rattle.opened.specs.Opening.{opening}
 use Rattle.disc.specs.Calls.{program_answer}
-use Rattle.edit_rules.specs.Edits.{verdict_of, image_after}
+use Rattle.edit_rules.specs.Edits.{Account, verdict_of, image_after}
 use Rattle.ledger.specs.Ledger.{Ledger, ledger_with}
 use Rattle.ledger.specs.Runs.{Call, image_after_all, AllWithin}
 use Rattle.ledger.specs.Theorem.{SameProgram}
@@ -25,9 +25,9 @@ pub program-along : (w : ℕ) (calls : List Call) (image : List ℕ) (l : Ledger
 unfolding image_after_all
 program-along w [] image l a k = nothing-done image
 program-along w (c ∷ calls) image l a k =
-    let next : List ℕ = image_after c.edit c.totals image c.words c.bytes in
-    kept_trans image next (image_after_all calls next) (program-after c.edit c.totals image c.words c.bytes k.bytes a.1)
-    (program-along w calls next (cond (not (is_err (verdict_of c.edit c.totals image c.words c.bytes))) (ledger_with c.edit l) l) a.2 (step w image l k c.words c.bytes a.0 c.totals c.edit a.1))
+    let next : List ℕ = image_after c.edit c.account image c.words c.bytes in
+    kept_trans image next (image_after_all calls next) (program-after c.edit c.account image c.words c.bytes k.bytes a.1)
+    (program-along w calls next (cond (not (is_err (verdict_of c.edit c.account image c.words c.bytes))) (ledger_with c.edit l) l) a.2 (step w image l k c.words c.bytes a.0 c.account c.edit a.1))
 
 -- ---- what it comes to
 

@@ -1,97 +1,156 @@
--- A record that was made of the first image and handed on through any list of calls says what one made afresh of the last image says, and how many
--- edits were accepted; and with such a record only the count can be a cause of 25. Assumes nothing.
-use Rattle.std.specs.Prelude.{Ok, Err, is_err}
+-- A record that was made of the first image and handed on through any list of calls says what one made afresh of the last image says, and what
+-- each team has taken, in how many accepted edits. Assumes nothing.
+use Rattle.std.specs.Prelude.{Ok, Err, is_err, is_ok}
 use Rattle.refusal.specs.Refusal.{Verdict}
-use Rattle.std.specs.Prelude.{ℕ, ◌+◌, ◌-◌, ◌^◌, ◌<◌, ◌≡◌, cond, not, List, [], ◌∷◌}
+use Rattle.std.specs.Prelude.{ℕ, ◌+◌, ◌-◌, ◌<◌, ◌≡◌, ◌&&◌, Bool, true, false, cond, ◌==◌, List, [], ◌∷◌, length}
 use Rattle.std.proofs.Math.Path.{refl}
-use Rattle.std.proofs.Common.{ap, ◌∙◌, arith}
-use borrow.Author.Tests.{le-ltb}
-use Rattle.endian.specs.Bytes.{AllBytes}
-use Rattle.refusal.specs.Refusal.{first}
+use Rattle.std.proofs.Common.{sym, ap, ◌∙◌, arith, eqb-true}
+use Rattle.std.proofs.lemmas.Bool.{eqb-false}
+use Rattle.refusal.specs.Laws.Tests.{and-false}
+use Rattle.space.specs.Laws.HoldsLaws.{and-true}
 use Rattle.totals.specs.declared.Totals.{Totals}
-use Rattle.totals.specs.Totals.{totals_verdict, moved_totals}
+use Rattle.totals.specs.declared.SpaceChange.{SpaceChange}
+use Rattle.totals.specs.Totals.{new_teams, team_of, moved_totals}
+use Rattle.totals.proofs.Laws.Moved.{moved-length, one-edit-more, same-edits, taken-charged, same-taken}
+use Rattle.totals.proofs.Laws.NewTeams.{new-length, new-taken, new-edits}
 use Rattle.opened.specs.Opening.{opening, used_of, disc_of}
-use Rattle.opened.proofs.Laws.OpeningLaws.{disc-filled}
 use Rattle.disc.specs.Calls.{totals_of, record_answer}
-use Rattle.edit_rules.specs.Edits.{Edit, plan_of, plan_verdict, plan_image, counted_verdict, totals_to, verdict_of, image_after, totals_after}
+use Rattle.edit_rules.specs.Edits.{Account, plan_of, plan_image, space_change, totals_to, verdict_of, image_after, totals_after}
 use Rattle.ledger.specs.Ledger.{first_ledger}
-use Rattle.ledger.specs.Runs.{Call, image_after_all, reports_of, totals_after_all, IsHandedOn, accepted_count, IsPassable}
+use Rattle.ledger.specs.Runs.{Call, image_after_all, totals_after_all, IsHandedOn, accepted_count, taken_after_all}
 use Rattle.ledger.specs.Theorem.{Tells, RecordTells}
-use Rattle.ledger.proofs.Laws.Opened.{opened}
-use Rattle.ledger.proofs.Laws.Steps.{step-accepted}
 use Rattle.ledger.proofs.Laws.Sequence.{start, along}
 
 -- a record that was made: the image opened, and the record is the image's
-pub made_of : (image : List ℕ) (w : ℕ) (t : Totals) → record_answer image w ≡ Ok t → (opening image w ≡ Ok tt) × (t ≡ totals_of image 0)
+pub made_of : (image : List ℕ) (w : ℕ) (limits shares : List ℕ) (t : Totals) → record_answer image w limits shares ≡ Ok t → (opening image w ≡ Ok tt) × (t ≡ totals_of image (new_teams limits shares))
 unfolding record_answer
-made_of image w t e = go (opening image w) refl
+made_of image w limits shares t e = go (opening image w) refl
   where
-    go : (v : Verdict) → opening image w ≡ v → (opening image w ≡ Ok tt) × (t ≡ totals_of image 0)
-    go (Ok _) q = let y = rw q at e in let k : t ≡ totals_of image 0 = cc in (q, k)
+    go : (v : Verdict) → opening image w ≡ v → (opening image w ≡ Ok tt) × (t ≡ totals_of image (new_teams limits shares))
+    go (Ok _) q = let y = rw q at e in let k : t ≡ totals_of image (new_teams limits shares) = cc in (q, k)
     go (Err c) q = let y = rw q at e in let z : ◌≡◌ {A = ℕ} 0 1 = cc in absurd (omega arith)
 
--- from the totals of one image to those of another
-moved_on : (image new : List ℕ) (n : ℕ) → totals_to (totals_of image n) image new ≡ totals_of new (n + 1)
-unfolding moved_totals
-moved_on image new n = let q : used_of image + used_of new - used_of image ≡ used_of new = omega arith in rw q
+-- ---- used bytes and the largest region
 
 -- LAW: one call, accepted or refused
-call-tells : (c : Call) (image : List ℕ) (n : ℕ) → c.totals ≡ totals_of image n →
-    totals_after c.edit c.totals image c.words c.bytes
-    ≡ totals_of (image_after c.edit c.totals image c.words c.bytes) (n + cond (not (is_err (verdict_of c.edit c.totals image c.words c.bytes))) 1 0)
-unfolding totals_after image_after
-call-tells c image n e = go (verdict_of c.edit c.totals image c.words c.bytes)
+call-tells : (c : Call) (image : List ℕ) → c.account.totals ≡ totals_of image c.account.totals.teams →
+    totals_after c.edit c.account image c.words c.bytes ≡ totals_of (image_after c.edit c.account image c.words c.bytes) (totals_after c.edit c.account image c.words c.bytes).teams
+unfolding totals_after image_after moved_totals
+call-tells c image e = go (verdict_of c.edit c.account image c.words c.bytes)
   where
-    go : (v : Verdict) →
-        cond (is_err v) c.totals (totals_to c.totals image (plan_image (plan_of c.edit (disc_of image)) image))
-        ≡ totals_of (cond (is_err v) image (plan_image (plan_of c.edit (disc_of image)) image)) (n + cond (not (is_err v)) 1 0)
-    go (Ok _) = rw e (moved_on image (plan_image (plan_of c.edit (disc_of image)) image) n)
-    go (Err x) = let z : n + 0 ≡ n = omega arith in rw z e
+    new : List ℕ
+    new = plan_image (plan_of c.edit (disc_of image)) image
 
-tells-along : (calls : List Call) (image : List ℕ) (t : Totals) (n : ℕ) → t ≡ totals_of image n → IsHandedOn t calls image →
-    totals_after_all t calls image ≡ totals_of (image_after_all calls image) (n + accepted_count (reports_of calls image))
-unfolding totals_after_all image_after_all accepted_count reports_of
-tells-along [] image t n e h = let z : n + 0 ≡ n = omega arith in rw z e
-tells-along (c ∷ calls) image t n e h =
-    let one : ℕ = cond (not (is_err (verdict_of c.edit c.totals image c.words c.bytes))) 1 0 in
-    let next : List ℕ = image_after c.edit c.totals image c.words c.bytes in
-    let more : ℕ = accepted_count (reports_of calls next) in
-    let z : n + one + more ≡ n + (one + more) = omega arith in
-    tells-along calls next (totals_after c.edit c.totals image c.words c.bytes) (n + one) (call-tells c image n (h.0 ∙ e)) h.1 ∙ ap (λ (k : ℕ). totals_of (image_after_all calls next) k) z
+    go : (v : Verdict) → cond (is_err v) c.account.totals (totals_to c.account image new) ≡ totals_of (cond (is_err v) image new) (cond (is_err v) c.account.totals (totals_to c.account image new)).teams
+    go (Ok _) = let q : c.account.totals.used + used_of new - used_of image ≡ used_of new = omega (arith, ap (λ (t : Totals). t.used) e) in rw q
+    go (Err x) = e
+
+tells-along : (calls : List Call) (image : List ℕ) (t : Totals) → t ≡ totals_of image t.teams → IsHandedOn t calls image →
+    totals_after_all t calls image ≡ totals_of (image_after_all calls image) (totals_after_all t calls image).teams
+unfolding totals_after_all image_after_all
+tells-along [] image t e h = e
+tells-along (c ∷ calls) image t e h =
+    tells-along calls (image_after c.edit c.account image c.words c.bytes) (totals_after c.edit c.account image c.words c.bytes) (call-tells c image (rw h.0 e)) h.1
+
+-- ---- what each team has taken, and the counts
+
+edits-moved : (t : Totals) (j : ℕ) (x : SpaceChange) (k : ℕ) → k < length t.teams → (team_of (moved_totals t j x) k).edits ≡ (team_of t k).edits + cond (j == k) 1 0
+edits-moved t j x k h = go (j == k) refl
+  where
+    go : (b : Bool) → (j == k) ≡ b → (team_of (moved_totals t j x) k).edits ≡ (team_of t k).edits + cond b 1 0
+    go true e = let j≡ : j ≡ k = eqb-true j k e in rw j≡ (one-edit-more t k x h)
+    go false e = let z = same-edits t j x k (λ q. eqb-false j k e (sym q)) in omega (arith, z)
+
+-- LAW: one call, accepted or refused
+call-counts : (c : Call) (image : List ℕ) (k : ℕ) → k < length c.account.totals.teams →
+    (length (totals_after c.edit c.account image c.words c.bytes).teams ≡ length c.account.totals.teams)
+    × ((team_of (totals_after c.edit c.account image c.words c.bytes) k).edits ≡ (team_of c.account.totals k).edits + cond (c.account.team == k && is_ok (verdict_of c.edit c.account image c.words c.bytes)) 1 0)
+unfolding totals_after
+call-counts c image k h = go (verdict_of c.edit c.account image c.words c.bytes)
+  where
+    a : Account
+    a = c.account
+
+    x : SpaceChange
+    x = space_change image (plan_image (plan_of c.edit (disc_of image)) image)
+
+    go : (v : Verdict) →
+        (length (cond (is_err v) a.totals (moved_totals a.totals a.team x)).teams ≡ length a.totals.teams)
+        × ((team_of (cond (is_err v) a.totals (moved_totals a.totals a.team x)) k).edits ≡ (team_of a.totals k).edits + cond (a.team == k && is_ok v) 1 0)
+    go (Ok _) = (moved-length a.totals a.team x, rw (and-true (a.team == k)) (edits-moved a.totals a.team x k h))
+    go (Err r) = (refl, rw (and-false (a.team == k)) (omega arith))
+
+counts-along : (calls : List Call) (image : List ℕ) (t : Totals) (k : ℕ) → k < length t.teams → IsHandedOn t calls image →
+    (team_of (totals_after_all t calls image) k).edits ≡ (team_of t k).edits + accepted_count k calls image
+unfolding totals_after_all accepted_count
+counts-along [] image t k h on = omega arith
+counts-along (c ∷ calls) image t k h on =
+    let here = call-counts c image k (rw on.0 h) in
+    let more = counts-along calls (image_after c.edit c.account image c.words c.bytes) (totals_after c.edit c.account image c.words c.bytes) k (omega (arith, here.0, h, ap (λ (t : Totals). length t.teams) on.0)) on.1 in
+    more ∙ omega (arith, here.1, ap (λ (t : Totals). (team_of t k).edits) on.0)
+
+taken-moved : (t : Totals) (j : ℕ) (x : SpaceChange) (k : ℕ) → k < length t.teams → (team_of (moved_totals t j x) k).taken ≡ cond (j == k) ((team_of t k).taken + x.after - x.before) (team_of t k).taken
+taken-moved t j x k h = go (j == k) refl
+  where
+    go : (b : Bool) → (j == k) ≡ b → (team_of (moved_totals t j x) k).taken ≡ cond b ((team_of t k).taken + x.after - x.before) (team_of t k).taken
+    go true e = let j≡ : j ≡ k = eqb-true j k e in rw j≡ (taken-charged t k x h)
+    go false e = same-taken t j x k (λ q. eqb-false j k e (sym q))
+
+-- LAW: one call, accepted or refused
+call-takes : (c : Call) (image : List ℕ) (k : ℕ) → k < length c.account.totals.teams →
+    (team_of (totals_after c.edit c.account image c.words c.bytes) k).taken
+    ≡ cond (c.account.team == k) ((team_of c.account.totals k).taken + used_of (image_after c.edit c.account image c.words c.bytes) - used_of image) (team_of c.account.totals k).taken
+unfolding totals_after image_after
+call-takes c image k h = go (verdict_of c.edit c.account image c.words c.bytes)
+  where
+    a : Account
+    a = c.account
+
+    new : List ℕ
+    new = plan_image (plan_of c.edit (disc_of image)) image
+
+    none : (b : Bool) (n : ℕ) → n ≡ cond b (n + used_of image - used_of image) n
+    none true n = omega arith
+    none false n = refl
+
+    go : (v : Verdict) →
+        (team_of (cond (is_err v) a.totals (moved_totals a.totals a.team (space_change image new))) k).taken
+        ≡ cond (a.team == k) ((team_of a.totals k).taken + used_of (cond (is_err v) image new) - used_of image) (team_of a.totals k).taken
+    go (Ok _) = taken-moved a.totals a.team (space_change image new) k h
+    go (Err r) = none (a.team == k) (team_of a.totals k).taken
+
+takes-along : (calls : List Call) (image : List ℕ) (t : Totals) (k : ℕ) → k < length t.teams → IsHandedOn t calls image →
+    (team_of (totals_after_all t calls image) k).taken ≡ taken_after_all k (team_of t k).taken calls image
+unfolding totals_after_all taken_after_all
+takes-along [] image t k h on = refl
+takes-along (c ∷ calls) image t k h on =
+    let long = (call-counts c image k (rw on.0 h)).0 in
+    let next : List ℕ = image_after c.edit c.account image c.words c.bytes in
+    takes-along calls next (totals_after c.edit c.account image c.words c.bytes) k (omega (arith, long, h, ap (λ (t : Totals). length t.teams) on.0)) on.1
+    ∙ rw (call-takes c image k (rw on.0 h), on.0) refl
 
 -- THEOREM
 pub record-tells : RecordTells
 unfolding record_answer
-record-tells image w₀ w t calls b e h a on =
-    let m = made_of image w₀ t e in
+record-tells image w₀ w limits shares t calls b l s e h a on =
+    let m = made_of image w₀ limits shares t e in
     let k = along w calls image (first_ledger image) a (start image w₀ w h b m.0) in
-    let z : 0 + accepted_count (reports_of calls image) ≡ accepted_count (reports_of calls image) = omega arith in
-    record { totals = tells-along calls image t 0 m.1 on ∙ ap (λ (n : ℕ). totals_of (image_after_all calls image) n) z; afresh = rw k.opens }
+    let sixteen : length t.teams ≡ 16 = ap (λ (t : Totals). length t.teams) m.1 ∙ new-length limits shares ∙ rw (l, s) in
+    record {
+      totals = tells-along calls image t (rw m.1) on;
+      afresh = λ limits shares. rw k.opens;
+      takes = λ j d.
+      let none : (team_of t j).taken ≡ 0 = ap (λ (t : Totals). (team_of t j).taken) m.1 ∙ new-taken limits shares j in
+      takes-along calls image t j (omega (arith, sixteen, d)) on ∙ rw none refl;
+      counts = λ j d.
+      let none : (team_of t j).edits ≡ 0 = ap (λ (t : Totals). (team_of t j).edits) m.1 ∙ new-edits limits shares j in
+      omega (arith, none, counts-along calls image t j (omega (arith, sixteen, d)) on);
+    }
 
--- THEOREM: a record made anew of the last image has the used bytes and the largest region of the one that was handed on, which has counted n edits
-pub made-anew : (image : List ℕ) (w n : ℕ) (t new : Totals) → Tells image w n t → record_answer image w ≡ Ok new → (new.used ≡ t.used) × (new.largest ≡ t.largest) × (new.edits ≡ 0) × (t.edits ≡ n)
-made-anew image w n t new tells e =
-    let q : totals_of image 0 ≡ new = cc tells.afresh in
-    rw (← q, tells.totals) (refl, refl, refl, refl)
-
--- ---- 25 and a record that is the image's
-
-module _ (image : List ℕ) (words bytes : ℕ) (b : AllBytes image) (e : opening image words ≡ Ok tt) (ed : Edit) (h : IsPassable ed) where
-  abbrev new : List ℕ
-  new = plan_image (plan_of ed (disc_of image)) image
-
-  -- the new image's used bytes have 32 bits
-  used-small : plan_verdict (plan_of ed (disc_of image)) (disc_of image) words bytes ≡ Ok tt → used_of new < 2 ^ 32
-  used-small v =
-      let k = step-accepted words image (first_ledger image) (start image words words (omega arith) b e) words bytes (omega arith) ed h v in
-      omega (arith, disc-filled new words k.bytes k.opens, (opened new words k.opens k.bytes).bounds.small)
-
-  -- THEOREM: with a record that is the image's, and a count that can rise, an edit is judged by its own tests: it never meets 25
-  pub own-record : (n : ℕ) → n + 1 < 2 ^ 32 → verdict_of ed (totals_of image n) image words bytes ≡ plan_verdict (plan_of ed (disc_of image)) (disc_of image) words bytes
-  unfolding verdict_of counted_verdict totals_verdict
-  own-record n l = rw e (go (plan_verdict (plan_of ed (disc_of image)) (disc_of image) words bytes) refl)
-    where
-      go : (v : Verdict) → plan_verdict (plan_of ed (disc_of image)) (disc_of image) words bytes ≡ v → first v (totals_verdict (totals_of image n) (used_of image) (used_of new)) ≡ v
-      go (Err c) q = refl
-      go (Ok tt) q =
-          rw (le-ltb (used_of image + used_of new) (used_of image) (omega arith), le-ltb 0xFFFFFFFF (used_of image + used_of new - used_of image) (omega (arith, used-small q)), le-ltb 0xFFFFFFFF (n + 1) (omega arith))
+-- THEOREM: a record made anew of the last image has the used bytes and the largest region of the one that was handed on, and no count
+pub made-anew : (image : List ℕ) (w : ℕ) (taken count : ℕ → ℕ) (limits shares : List ℕ) (t new : Totals) → Tells image w taken count t → record_answer image w limits shares ≡ Ok new →
+    (new.used ≡ t.used) × (new.largest ≡ t.largest) × ((k : ℕ) → (team_of new k).edits ≡ 0)
+made-anew image w taken count limits shares t new tells e =
+    let q : totals_of image (new_teams limits shares) ≡ new = cc (tells.afresh limits shares) in
+    let n = new-edits limits shares in
+    rw (← q, ap (λ (t : Totals). t.used) tells.totals, ap (λ (t : Totals). t.largest) tells.totals) (refl, refl, n)

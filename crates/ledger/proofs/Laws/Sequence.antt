@@ -47,8 +47,8 @@ pub along : (w : ℕ) (calls : List Call) (image : List ℕ) (l : Ledger) → Al
 unfolding image_after_all reports_of ledger_after
 along w [] image l a k = k
 along w (c ∷ calls) image l a k =
-    along w calls (image_after c.edit c.totals image c.words c.bytes) (cond (not (is_err (verdict_of c.edit c.totals image c.words c.bytes))) (ledger_with c.edit l) l) a.2
-    (step w image l k c.words c.bytes a.0 c.totals c.edit a.1)
+    along w calls (image_after c.edit c.account image c.words c.bytes) (cond (not (is_err (verdict_of c.edit c.account image c.words c.bytes))) (ledger_with c.edit l) l) a.2
+    (step w image l k c.words c.bytes a.0 c.account c.edit a.1)
 
 -- ---- what it comes to
 

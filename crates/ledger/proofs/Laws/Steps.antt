@@ -3,9 +3,8 @@ use Rattle.std.specs.Prelude.{Ok, Err, is_err}
 use Rattle.refusal.specs.Refusal.{Verdict}
 use Rattle.std.specs.Prelude.{ℕ, ◌≤◌, ◌≡◌, cond, not, List}
 use Rattle.std.proofs.Math.Path.{refl}
-use Rattle.totals.specs.declared.Totals.{Totals}
 use Rattle.opened.specs.Opening.{disc_of}
-use Rattle.edit_rules.specs.Edits.{Edit, insert_file, insert_directory, make_directories, move_file, resize_file, fill_file, rewrite, plan_of, verdict_of, plan_image, image_after}
+use Rattle.edit_rules.specs.Edits.{Edit, Account, insert_file, insert_directory, make_directories, move_file, resize_file, fill_file, rewrite, plan_of, verdict_of, plan_image, image_after}
 use Rattle.edit_rules.proofs.Laws.Accepted.{accepted}
 use Rattle.ledger.specs.Ledger.{Ledger, ledger_with}
 use Rattle.ledger.specs.Runs.{IsPassable}
@@ -27,10 +26,10 @@ module _ (w : ℕ) (image : List ℕ) (l : Ledger) (K : Kept w image l) (words b
   step-accepted rewrite h = step-rewrite w image l K words bytes lent
 
   -- LAW: a call keeps what holds; a refused one changes neither image nor ledger
-  pub step : (totals : Totals) (ed : Edit) → IsPassable ed → Kept w (image_after ed totals image words bytes) (cond (not (is_err (verdict_of ed totals image words bytes))) (ledger_with ed l) l)
+  pub step : (account : Account) (ed : Edit) → IsPassable ed → Kept w (image_after ed account image words bytes) (cond (not (is_err (verdict_of ed account image words bytes))) (ledger_with ed l) l)
   unfolding image_after
-  step totals ed h = go (verdict_of ed totals image words bytes) refl
+  step account ed h = go (verdict_of ed account image words bytes) refl
     where
-      go : (v : Verdict) → verdict_of ed totals image words bytes ≡ v → Kept w (cond (is_err v) image (plan_image (plan_of ed (disc_of image)) image)) (cond (not (is_err v)) (ledger_with ed l) l)
-      go (Ok _) e = step-accepted ed h (accepted ed totals image words bytes e).own
+      go : (v : Verdict) → verdict_of ed account image words bytes ≡ v → Kept w (cond (is_err v) image (plan_image (plan_of ed (disc_of image)) image)) (cond (not (is_err v)) (ledger_with ed l) l)
+      go (Ok _) e = step-accepted ed h (accepted ed account image words bytes e).own
       go (Err c) e = K

@@ -6,9 +6,8 @@ use Rattle.std.specs.Prelude.{ℕ, ◌≤◌, ◌≡◌, cond, List}
 use Rattle.std.proofs.Math.Path.{refl}
 use Rattle.std.proofs.Common.{arith}
 use Rattle.endian.specs.Bytes.{AllBytes}
-use Rattle.totals.specs.declared.Totals.{Totals}
 use Rattle.opened.specs.Opening.{nodes_in, opening, disc_of}
-use Rattle.edit_rules.specs.Edits.{Edit, insert_file, insert_directory, make_directories, move_file, resize_file, fill_file, rewrite, plan_of, verdict_of, plan_tree, plan_image, image_after}
+use Rattle.edit_rules.specs.Edits.{Edit, Account, insert_file, insert_directory, make_directories, move_file, resize_file, fill_file, rewrite, plan_of, verdict_of, plan_tree, plan_image, image_after}
 use Rattle.edit_rules.proofs.Laws.Accepted.{accepted}
 use Rattle.ledger.specs.Ledger.{first_ledger}
 use Rattle.ledger.specs.Runs.{IsPassable}
@@ -37,24 +36,24 @@ module _ (image : List ℕ) (words bytes : ℕ) (b : AllBytes image) (e : openin
   arrives (fill_file k clip) h = fill words image (first_ledger image) K words bytes same k clip h
   arrives rewrite h = on-table image words bytes words (first_ledger image) K same (nodes_in image) (opened image words e b).well refl 0
 
-module _ (ed : Edit) (totals : Totals) (image : List ℕ) (words bytes : ℕ) (b : AllBytes image) (h : IsPassable ed) where
-  after : verdict_of ed totals image words bytes ≡ Ok tt → (nodes_in (plan_image (plan_of ed (disc_of image)) image) ≡ plan_tree (plan_of ed (disc_of image)) (nodes_in image)) × ProgramKept image (plan_image (plan_of ed (disc_of image)) image) × Lays (plan_of ed (disc_of image)) image (plan_image (plan_of ed (disc_of image)) image)
-  after v = let a = accepted ed totals image words bytes v in arrives image words bytes b a.opens ed h a.own
+module _ (ed : Edit) (account : Account) (image : List ℕ) (words bytes : ℕ) (b : AllBytes image) (h : IsPassable ed) where
+  after : verdict_of ed account image words bytes ≡ Ok tt → (nodes_in (plan_image (plan_of ed (disc_of image)) image) ≡ plan_tree (plan_of ed (disc_of image)) (nodes_in image)) × ProgramKept image (plan_image (plan_of ed (disc_of image)) image) × Lays (plan_of ed (disc_of image)) image (plan_image (plan_of ed (disc_of image)) image)
+  after v = let a = accepted ed account image words bytes v in arrives image words bytes b a.opens ed h a.own
 
   -- THEOREM: of every edit: if it is accepted, the tree read from the image afterwards is the planned one
-  pub tree-after : verdict_of ed totals image words bytes ≡ Ok tt → nodes_in (image_after ed totals image words bytes) ≡ plan_tree (plan_of ed (disc_of image)) (nodes_in image)
+  pub tree-after : verdict_of ed account image words bytes ≡ Ok tt → nodes_in (image_after ed account image words bytes) ≡ plan_tree (plan_of ed (disc_of image)) (nodes_in image)
   unfolding image_after
   tree-after v = rw v (after v).0
 
   -- THEOREM: accepted or refused, an edit leaves the program as it was
-  pub program-after : ProgramKept image (image_after ed totals image words bytes)
+  pub program-after : ProgramKept image (image_after ed account image words bytes)
   unfolding image_after
-  program-after = go (verdict_of ed totals image words bytes) refl
+  program-after = go (verdict_of ed account image words bytes) refl
     where
-      go : (v : Verdict) → verdict_of ed totals image words bytes ≡ v → ProgramKept image (cond (is_err v) image (plan_image (plan_of ed (disc_of image)) image))
+      go : (v : Verdict) → verdict_of ed account image words bytes ≡ v → ProgramKept image (cond (is_err v) image (plan_image (plan_of ed (disc_of image)) image))
       go (Ok _) e = (after e).1
       go (Err c) e = nothing-done image
 
 -- THEOREM: a rewrite leaves the tree as it is
-pub rewritten : (totals : Totals) (image : List ℕ) (words bytes : ℕ) → AllBytes image → verdict_of rewrite totals image words bytes ≡ Ok tt → nodes_in (image_after rewrite totals image words bytes) ≡ nodes_in image
-rewritten totals image words bytes b v = tree-after rewrite totals image words bytes b tt v
+pub rewritten : (account : Account) (image : List ℕ) (words bytes : ℕ) → AllBytes image → verdict_of rewrite account image words bytes ≡ Ok tt → nodes_in (image_after rewrite account image words bytes) ≡ nodes_in image
+rewritten account image words bytes b v = tree-after rewrite account image words bytes b tt v

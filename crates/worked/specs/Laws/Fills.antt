@@ -17,13 +17,13 @@ use Rattle.space.specs.Free.{runs, free_regions}
 use Rattle.space.specs.Align.{align_up}
 use Rattle.space.specs.MaxRegionSize.{size_beside_free, max_size_from}
 use Rattle.space.specs.Allocate.{better_of, largest_rest, is_power_among, allocation_of}
-use Rattle.totals.specs.Totals.{totals_verdict}
+use Rattle.totals.specs.Totals.{remainders, team_verdict, totals_verdict}
 use Rattle.executable.specs.Program.{program_of, program_in, own_region}
-use Rattle.opened.specs.Opening.{table_of, nodes_in, opening, used_of, used_in, regions_behind_table, layout_verdict}
+use Rattle.opened.specs.Opening.{table_of, nodes_in, opening, free_space_of, used_of, used_in, regions_behind_table, layout_verdict}
 use Rattle.edit_rules.specs.Change.{image_with_table, written_image, table_verdict, place_verdict}
 use Rattle.edit_rules.specs.Edits.{fill_file, plan_resize, plan_fill, counted_verdict, verdict_of, image_after}
-use Rattle.disc.specs.Calls.{totals_of}
-use Rattle.worked.specs.Laws.Worked.{verdict_on, after, small, large, of_b, large-opens, large-nodes, large-free, large-used, large-header, grown}
+use Rattle.worked.specs.Handed.{own}
+use Rattle.worked.specs.Laws.Worked.{at, verdict_on, after, small, large, of_b, large-opens, large-nodes, large-free, large-used, large-header, grown}
 
 abbrev three : List ℕ
 three = 0x11 ∷ 0x12 ∷ 0x13 ∷ []
@@ -38,7 +38,7 @@ twelve = eight ++ (0x31 ∷ 0x32 ∷ 0x33 ∷ 0x34 ∷ [])
 
 pub record Fills : Type 0 where
   -- the file's own size: the clip alone is written, and no working byte is wanted; the table keeps its lost tail
-  pub same : (verdict_of (fill_file 1 eight) (totals_of small 0) small 20 0 ≡ Ok tt) × (image_after (fill_file 1 eight) (totals_of small 0) small 20 0 ≡ put small 0x500 eight)
+  pub same : (verdict_of (fill_file 1 eight) (own small) small 20 0 ≡ Ok tt) × (image_after (fill_file 1 eight) (own small) small 20 0 ≡ put small 0x500 eight)
   -- shorter: the old tail is zeroed
   pub shorter : (verdict_on (fill_file 1 three) small ≡ Ok tt) × (span (after (fill_file 1 three) small) 0x500 12 ≡ three ++ (replicate 5 0 ++ of_b))
   -- none: a resize to 0
@@ -48,14 +48,14 @@ pub record Fills : Type 0 where
   -- as far as it can grow, and one byte more: no multiple of 0x8000 is free
   pub most : (verdict_on (fill_file 2 (replicate 0xF8 1)) small ≡ Ok tt) × (verdict_on (fill_file 2 (replicate 0xF9 1)) small ≡ Err NotEnoughSpace) × (number_of NotEnoughSpace ≡ 21)
   -- one working byte too few for the table: nothing is written
-  pub table : (verdict_of (fill_file 1 three) (totals_of small 0) small 20 39 ≡ Err LimitOrMemory) × (image_after (fill_file 1 three) (totals_of small 0) small 20 39 ≡ small)
+  pub table : (verdict_of (fill_file 1 three) (own small) small 20 39 ≡ Err LimitOrMemory) × (image_after (fill_file 1 three) (own small) small 20 39 ≡ small)
   -- above 2^32 - 1 bytes
   pub longest : (clip : List ℕ) → 0xFFFFFFFF < length clip → verdict_on (fill_file 1 clip) small ≡ Err NotEnoughSpace
   -- 15, 16
   pub refused : (verdict_on (fill_file 3 three) small ≡ Err NoSuchEntry) × (verdict_on (fill_file 0 three) small ≡ Err ExpectedFile)
 
 pub fills : Fills
-unfolding small plan_resize plan_fill put opening layout_verdict header_verdict all_fields_verdict field_verdict fields bounds_verdict table_of check nodes_in nodes_of nodes_from node_at name_at count entries_verdict entry_verdict is_unended walk name_verdict next_verdict dirs_open_at is_plain is_safe be24 be32 used_in regions_behind_table program_of program_in own_region nonempty_regions are_disjoint_below are_pairwise_disjoint is_disjoint_from_all are_disjoint are_below free_regions runs is_used used_of total_size totals_verdict image_after verdict_of counted_verdict table_verdict place_verdict limits is_shallow is_shallow_from texts_of encode entries_bytes parent_of parent_below set_place written_image image_with_table max_size_from size_beside_free allocation_of is_power_among largest_rest better_of align_up units
+unfolding small plan_resize plan_fill put opening layout_verdict header_verdict all_fields_verdict field_verdict fields bounds_verdict table_of check nodes_in nodes_of nodes_from node_at name_at count entries_verdict entry_verdict is_unended walk name_verdict next_verdict dirs_open_at is_plain is_safe be24 be32 used_in regions_behind_table program_of program_in own_region nonempty_regions are_disjoint_below are_pairwise_disjoint is_disjoint_from_all are_disjoint are_below free_regions runs is_used used_of total_size remainders team_verdict totals_verdict image_after verdict_of counted_verdict table_verdict place_verdict limits is_shallow is_shallow_from texts_of encode entries_bytes parent_of parent_below set_place written_image image_with_table max_size_from size_beside_free allocation_of is_power_among largest_rest better_of align_up units
 fills = record {
   same = (refl, refl);
   shorter = (refl, refl);
@@ -73,9 +73,13 @@ moved-used : used_of (put grown 0x8000 twelve) ≡ 1144
 unfolding large put table_of nodes_in nodes_of nodes_from node_at name_at count be24 be32 texts_of encode entries_bytes parent_of parent_below written_image image_with_table used_of regions_behind_table program_of program_in own_region total_size
 moved-used = refl
 
+moved-free : free_space_of (put grown 0x8000 twelve) ≡ at 0x468 0xA0 ∷ at 0x50C 0x7AF4 ∷ at 0x800C 0x34 ∷ []
+unfolding large put table_of nodes_in nodes_of nodes_from node_at name_at count be24 be32 texts_of encode entries_bytes parent_of parent_below written_image image_with_table used_in regions_behind_table program_of program_in own_region free_regions runs is_used nonempty_regions
+moved-free = refl
+
 moves : verdict_on (fill_file 1 twelve) large ≡ Ok tt
-unfolding verdict_of counted_verdict totals_verdict plan_fill plan_resize max_size_from size_beside_free allocation_of is_power_among largest_rest better_of align_up table_verdict place_verdict limits is_shallow is_shallow_from dirs_open_at texts_of encode entries_bytes parent_of parent_below set_place
-moves = rw (large-opens, large-nodes, large-free, large-header.2, large-header.0, large-header.1, large-free, large-used, moved-used)
+unfolding verdict_of counted_verdict team_verdict totals_verdict remainders total_size plan_fill plan_resize max_size_from size_beside_free allocation_of is_power_among largest_rest better_of align_up table_verdict place_verdict limits is_shallow is_shallow_from dirs_open_at texts_of encode entries_bytes parent_of parent_below set_place
+moves = rw (large-opens, large-nodes, large-free, large-header.2, large-header.0, large-header.1, large-free, large-used, moved-used, moved-free)
 
 moved-is : after (fill_file 1 twelve) large ≡ put grown 0x8000 twelve
 unfolding image_after plan_fill plan_resize max_size_from size_beside_free allocation_of is_power_among largest_rest better_of align_up set_place

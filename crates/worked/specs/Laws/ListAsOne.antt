@@ -1,25 +1,28 @@
--- The worked list as one call: its edits come to its calls, and each answer is worked. Assumes nothing.
+-- The worked list as one call: its turns come to its calls, and each answer is worked. Assumes nothing.
 use Rattle.std.specs.Prelude.{Ok, Err, ◌≡◌, List, [], ◌∷◌}
 use Rattle.refusal.specs.declared.Refusal.TheVariants.{OverlappingMove, TableAboveMaximum}
 use Rattle.edit_rules.specs.Edits.{Edit, insert_file, move_file, resize_file, fill_file, rewrite}
-use Rattle.ledger.specs.Lists.{calls_of, answers_of}
+use Rattle.ledger.specs.Lists.{Turn, calls_of, answers_of}
 use Rattle.worked.specs.Image.{master_words}
 use Rattle.worked.specs.Laws.ListImages.{first, clip}
 use Rattle.worked.specs.Laws.ListSteps.{fresh, inserted, above, onto-itself, moved, filled-b, resized-b, rewritten, insert-plan, move-plan, fill-plan, resize-plan}
 use Rattle.worked.specs.Laws.WorkedList.{list}
 
-abbrev pub edits : List Edit
-edits =
-    insert_file 0 (0x62 ∷ []) ∷
-    insert_file 0 (0x63 ∷ []) ∷
-    move_file 1 0x580 ∷
-    move_file 2 0x900 ∷
-    fill_file 2 clip ∷
-    resize_file 2 5 ∷
-    rewrite ∷ []
+abbrev turn : Edit → Turn
+turn ed = record { team = 0; edit = ed }
+
+abbrev pub turns : List Turn
+turns =
+    turn (insert_file 0 (0x62 ∷ [])) ∷
+    turn (insert_file 0 (0x63 ∷ [])) ∷
+    turn (move_file 1 0x580) ∷
+    turn (move_file 2 0x900) ∷
+    turn (fill_file 2 clip) ∷
+    turn (resize_file 2 5) ∷
+    turn rewrite ∷ []
 
 -- each call is handed the image and the record that the one before gave back
-pub come-to : calls_of edits fresh first master_words 0x36 ≡ list
+pub come-to : calls_of turns fresh.totals first master_words 0x36 ≡ list
 unfolding list calls_of
 come-to =
     rw (

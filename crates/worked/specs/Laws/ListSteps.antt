@@ -1,49 +1,45 @@
 -- Each call of the worked list on the image that it is handed: its plan, the tests that it passes, what it writes; so its answer, and the image and
 -- the record that it leaves. Assumes nothing.
 use Rattle.std.specs.Prelude.{Ok, Err}
-use Rattle.refusal.specs.Refusal.{Verdict}
-use Rattle.std.specs.Prelude.{ℕ, ◌≡◌, refl, List, [], ◌∷◌}
+use Rattle.std.specs.Prelude.{ℕ, ◌-◌, ◌≡◌, refl, List, [], ◌∷◌}
 use Rattle.endian.specs.Bytes.{be32, put, are_same_bytes}
-use Rattle.refusal.specs.declared.Refusal.{Refusal}
 use Rattle.refusal.specs.declared.Refusal.TheVariants.{OverlappingMove, TableAboveMaximum}
 use Rattle.tree.specs.Units.{units}
 use Rattle.tree.specs.Table.{Node, is_plain, is_safe, dirs_open_at, parent_below, parent_of, entries_bytes, texts_of, encode, is_shallow_from, is_shallow, limits}
 use Rattle.tree.specs.Lookup.{first_child, child_of}
 use Rattle.tree.specs.Insert.{raised_next, splice, insert_at, set_place}
 use Rattle.space.specs.declared.region.DiscRegion.{DiscRegion}
-use Rattle.space.specs.Used.{no_region}
+use Rattle.space.specs.Used.{no_region, total_size}
 use Rattle.space.specs.Free.{largest_size}
 use Rattle.space.specs.MaxRegionSize.{size_beside_free, max_size_from}
 use Rattle.totals.specs.declared.Totals.{Totals}
-use Rattle.totals.specs.Totals.{totals_verdict, moved_totals}
+use Rattle.totals.specs.Totals.{remainders, team_verdict, totals_verdict, moved_totals}
 use Rattle.opened.specs.Opening.{disc_of}
 use Rattle.edit_rules.specs.Change.{Change, Plan, change, filled, image_with_table, written_image, table_verdict, place_verdict}
-use Rattle.edit_rules.specs.Edits.{Edit, insert_file, move_file, resize_file, fill_file, rewrite, table_change, relocation_change, resize_change, insert_verdict, plan_move, plan_resize, plan_fill, plan_of, plan_verdict, plan_image, counted_verdict, verdict_of, image_after, totals_after}
-use Rattle.edit_rules.proofs.Laws.Accepted.{refused-back}
+use Rattle.edit_rules.specs.Edits.{Edit, Account, account, insert_file, move_file, resize_file, fill_file, rewrite, table_change, relocation_change, resize_change, insert_verdict, plan_move, plan_resize, plan_fill, plan_of, plan_verdict, plan_image, counted_verdict, verdict_of}
+use Rattle.worked.specs.Handed.{teams_after}
 use Rattle.worked.specs.Image.{master, master_words}
 use Rattle.worked.specs.Laws.Marked.{at}
 use Rattle.worked.specs.Laws.Maximum.{stating}
+use Rattle.worked.specs.Laws.Planned.{to, Step, Planned, accepted-by, refused}
 use Rattle.worked.specs.Laws.ListImages.{first, clip, with_b, last, Reads, space, total, tree_b, at_first, at-inserted, at_moved, at-filled, at_last}
 
+-- what team 0 has taken is what is used more than at first
 abbrev pub totals : ℕ → ℕ → ℕ → Totals
-totals used largest edits = record { used = used; largest = largest; edits = edits }
+totals used largest edits = record { used = used; largest = largest; teams = teams_after (used - 1630) edits }
+
+abbrev pub held : ℕ → ℕ → ℕ → Account
+held used largest edits = account (totals used largest edits) 0
 
 -- the record of the first image
-abbrev pub fresh : Totals
-fresh = totals 1630 6140 0
+abbrev pub fresh : Account
+fresh = held 1630 6140 0
 
--- a call's answer, and the image and the record that it leaves; it is lent as many working bytes as a table of four entries would have
-pub record Step (v : Verdict) (ed : Edit) (t : Totals) (image next : List ℕ) (t' : Totals) : Type 0 where
-  pub answered : verdict_of ed t image master_words 0x36 ≡ v
-  pub written : image_after ed t image master_words 0x36 ≡ next
-  pub counted : totals_after ed t image master_words 0x36 ≡ t'
-
-module _ {image next : List ℕ} {nodes nodes' : List Node} {free free' : List DiscRegion} {size size' used used' : ℕ} (r : Reads image nodes free size used) (r' : Reads next nodes' free' size' used') where
-  step : (ed : Edit) (p : Plan) (t t' : Totals) → plan_of ed (disc_of image) ≡ p → plan_verdict p (disc_of image) master_words 0x36 ≡ Ok tt → plan_image p image ≡ next → totals_verdict t used used' ≡ Ok tt → moved_totals t used used' (largest_size free') ≡ t' → Step (Ok tt) ed t image next t'
-  unfolding image_after totals_after verdict_of counted_verdict
-  step ed p t t' plan tests writes counts moves =
-      let v : verdict_of ed t image master_words 0x36 ≡ Ok tt = rw (r.opens, plan, tests, writes, total r, total r') counts in
-      record { answered = v; written = rw (v, plan) writes; counted = rw (v, plan, writes, total r, total r', space r') moves }
+-- of images that read so, with the plan, its tests and what it writes; each call is lent as many working bytes as a table of four entries would
+-- have
+planned : {image next : List ℕ} {nodes nodes' : List Node} {free free' : List DiscRegion} {size size' used used' : ℕ} → Reads image nodes free size used → Reads next nodes' free' size' used' →
+    (ed : Edit) (p : Plan) → plan_of ed (disc_of image) ≡ p → plan_verdict p (disc_of image) master_words 0x36 ≡ Ok tt → plan_image p image ≡ next → Planned 0x36 ed image next (to used used' (total_size free') (largest_size free'))
+planned r r' ed p plan tests writes = record { opens = r.opens; tests = rw plan tests; writes = rw plan writes; change = rw (total r, total r', space r') }
 
 -- `b` put in
 
@@ -62,29 +58,25 @@ insert-writes : plan_image (change 2 (table_change (tree_b 0 0))) first ≡ with
 unfolding with_b first stating master put be32 texts_of encode entries_bytes parent_of parent_below written_image image_with_table
 insert-writes = refl
 
-pub inserted : Step (Ok tt) insert_b fresh first (with_b 0 0 []) (totals 1644 6140 1)
-unfolding totals_verdict moved_totals largest_size
-inserted = step at_first at-inserted insert_b _ fresh _ insert-plan insert-tests insert-writes refl refl
+pub inserted : Step 0x36 (Ok tt) insert_b fresh first (with_b 0 0 []) (totals 1644 6140 1)
+unfolding team_verdict totals_verdict remainders moved_totals largest_size total_size
+inserted = accepted-by (planned at_first at-inserted insert_b _ insert-plan insert-tests insert-writes) fresh refl
 
 -- one entry more: 26; `a` onto itself: 20
 
-above-tests : verdict_of (insert_file 0 (0x63 ∷ [])) (totals 1644 6140 1) (with_b 0 0 []) master_words 0x36 ≡ Err TableAboveMaximum
-unfolding verdict_of counted_verdict table_verdict place_verdict limits is_shallow is_shallow_from dirs_open_at texts_of encode entries_bytes parent_of parent_below max_size_from size_beside_free insert_verdict insert_at splice raised_next child_of first_child are_same_bytes is_plain is_safe units
+above-tests : verdict_of (insert_file 0 (0x63 ∷ [])) (held 1644 6140 1) (with_b 0 0 []) master_words 0x36 ≡ Err TableAboveMaximum
+unfolding verdict_of counted_verdict team_verdict table_verdict place_verdict limits is_shallow is_shallow_from dirs_open_at texts_of encode entries_bytes parent_of parent_below max_size_from size_beside_free insert_verdict insert_at splice raised_next child_of first_child are_same_bytes is_plain is_safe units
 above-tests = rw (at-inserted.opens, at-inserted.tree, at-inserted.header.2)
 
-onto-itself-tests : verdict_of (move_file 1 0x580) (totals 1644 6140 1) (with_b 0 0 []) master_words 0x36 ≡ Err OverlappingMove
-unfolding verdict_of counted_verdict plan_move
+onto-itself-tests : verdict_of (move_file 1 0x580) (held 1644 6140 1) (with_b 0 0 []) master_words 0x36 ≡ Err OverlappingMove
+unfolding verdict_of counted_verdict team_verdict plan_move
 onto-itself-tests = rw (at-inserted.opens, at-inserted.tree)
 
--- a refused call leaves both
-refused : (c : Refusal) (ed : Edit) (t : Totals) (image : List ℕ) → verdict_of ed t image master_words 0x36 ≡ Err c → Step (Err c) ed t image image t
-refused c ed t image e = let b = refused-back ed t image master_words 0x36 c e in record { answered = e; written = b.1; counted = b.0 }
+pub above : Step 0x36 (Err TableAboveMaximum) (insert_file 0 (0x63 ∷ [])) (held 1644 6140 1) (with_b 0 0 []) (with_b 0 0 []) (totals 1644 6140 1)
+above = refused 0x36 TableAboveMaximum (insert_file 0 (0x63 ∷ [])) (held 1644 6140 1) (with_b 0 0 []) above-tests
 
-pub above : Step (Err TableAboveMaximum) (insert_file 0 (0x63 ∷ [])) (totals 1644 6140 1) (with_b 0 0 []) (with_b 0 0 []) (totals 1644 6140 1)
-above = refused TableAboveMaximum (insert_file 0 (0x63 ∷ [])) (totals 1644 6140 1) (with_b 0 0 []) above-tests
-
-pub onto-itself : Step (Err OverlappingMove) (move_file 1 0x580) (totals 1644 6140 1) (with_b 0 0 []) (with_b 0 0 []) (totals 1644 6140 1)
-onto-itself = refused OverlappingMove (move_file 1 0x580) (totals 1644 6140 1) (with_b 0 0 []) onto-itself-tests
+pub onto-itself : Step 0x36 (Err OverlappingMove) (move_file 1 0x580) (held 1644 6140 1) (with_b 0 0 []) (with_b 0 0 []) (totals 1644 6140 1)
+onto-itself = refused 0x36 OverlappingMove (move_file 1 0x580) (held 1644 6140 1) (with_b 0 0 []) onto-itself-tests
 
 -- `b`, which is empty, to where there is room
 
@@ -103,9 +95,9 @@ move-writes : plan_image (change 2 move_b) (with_b 0 0 []) ≡ with_b 0x900 0 []
 unfolding with_b first stating master put be32 texts_of encode entries_bytes parent_of parent_below written_image image_with_table set_place
 move-writes = refl
 
-pub moved : Step (Ok tt) (move_file 2 0x900) (totals 1644 6140 1) (with_b 0 0 []) (with_b 0x900 0 []) (totals 1644 6140 2)
-unfolding totals_verdict moved_totals largest_size
-moved = step at-inserted at_moved (move_file 2 0x900) _ (totals 1644 6140 1) _ move-plan move-tests move-writes refl refl
+pub moved : Step 0x36 (Ok tt) (move_file 2 0x900) (held 1644 6140 1) (with_b 0 0 []) (with_b 0x900 0 []) (totals 1644 6140 2)
+unfolding team_verdict totals_verdict remainders moved_totals largest_size total_size
+moved = accepted-by (planned at-inserted at_moved (move_file 2 0x900) _ move-plan move-tests move-writes) (held 1644 6140 1) refl
 
 -- the clip
 
@@ -124,9 +116,9 @@ fill-writes : plan_image (filled 2 clip (change 2 grow_b)) (with_b 0x900 0 []) �
 unfolding with_b first stating master put be32 texts_of encode entries_bytes parent_of parent_below written_image image_with_table set_place
 fill-writes = refl
 
-pub filled-b : Step (Ok tt) (fill_file 2 clip) (totals 1644 6140 2) (with_b 0x900 0 []) (with_b 0x900 3 clip) (totals 1647 5885 3)
-unfolding totals_verdict moved_totals largest_size
-filled-b = step at_moved at-filled (fill_file 2 clip) _ (totals 1644 6140 2) _ fill-plan fill-tests fill-writes refl refl
+pub filled-b : Step 0x36 (Ok tt) (fill_file 2 clip) (held 1644 6140 2) (with_b 0x900 0 []) (with_b 0x900 3 clip) (totals 1647 5885 3)
+unfolding team_verdict totals_verdict remainders moved_totals largest_size total_size
+filled-b = accepted-by (planned at_moved at-filled (fill_file 2 clip) _ fill-plan fill-tests fill-writes) (held 1644 6140 2) refl
 
 -- two bytes more
 
@@ -145,9 +137,9 @@ resize-writes : plan_image (change 2 more_b) (with_b 0x900 3 clip) ≡ last
 unfolding with_b first stating master put be32 texts_of encode entries_bytes parent_of parent_below written_image image_with_table set_place
 resize-writes = refl
 
-pub resized-b : Step (Ok tt) (resize_file 2 5) (totals 1647 5885 3) (with_b 0x900 3 clip) last (totals 1649 5883 4)
-unfolding totals_verdict moved_totals largest_size
-resized-b = step at-filled at_last (resize_file 2 5) _ (totals 1647 5885 3) _ resize-plan resize-tests resize-writes refl refl
+pub resized-b : Step 0x36 (Ok tt) (resize_file 2 5) (held 1647 5885 3) (with_b 0x900 3 clip) last (totals 1649 5883 4)
+unfolding team_verdict totals_verdict remainders moved_totals largest_size total_size
+resized-b = accepted-by (planned at-filled at_last (resize_file 2 5) _ resize-plan resize-tests resize-writes) (held 1647 5885 3) refl
 
 -- the table written anew
 
@@ -162,6 +154,6 @@ rewrite-writes : plan_image (change 0 (table_change (tree_b 0x900 5))) last ≡ 
 unfolding with_b first stating master put be32 texts_of encode entries_bytes parent_of parent_below written_image image_with_table
 rewrite-writes = refl
 
-pub rewritten : Step (Ok tt) rewrite (totals 1649 5883 4) last last (totals 1649 5883 5)
-unfolding totals_verdict moved_totals largest_size
-rewritten = step at_last at_last rewrite _ (totals 1649 5883 4) _ rewrite-plan rewrite-tests rewrite-writes refl refl
+pub rewritten : Step 0x36 (Ok tt) rewrite (held 1649 5883 4) last last (totals 1649 5883 5)
+unfolding team_verdict totals_verdict remainders moved_totals largest_size total_size
+rewritten = accepted-by (planned at_last at_last rewrite _ rewrite-plan rewrite-tests rewrite-writes) (held 1649 5883 4) refl

@@ -26,15 +26,15 @@ use Rattle.space.specs.MaxRegionSize.{size_beside_free, max_size_from}
 use Rattle.space.specs.Align.{align_up}
 use Rattle.space.specs.Allocate.{better_of, largest_rest, is_power_among, allocation_of}
 use Rattle.space.specs.Listing.{rows_of}
-use Rattle.totals.specs.declared.Totals.{Totals}
-use Rattle.totals.specs.Totals.{totals_verdict}
+use Rattle.totals.specs.Totals.{remainders, team_verdict, totals_verdict}
 use Rattle.executable.specs.Program.{program_of, program_in, own_region}
 use Rattle.opened.specs.Opening.{table_of, nodes_in, opening, free_space_of, used_of, used_in, regions_behind_table, layout_verdict}
 use Rattle.disc.specs.Files.{entry_answer, lookup_answer, max_file_size_answer, open_file_answer}
 use Rattle.disc.specs.Calls.{totals_answer, free_answer, free_list, free_regions_answer, free_regions_list, free_clusters_answer, free_clusters_list, allocate_answer}
 use Rattle.opened.specs.Answers.{max_region_size_answer}
 use Rattle.edit_rules.specs.Change.{image_with_table, written_image, table_verdict, place_verdict}
-use Rattle.edit_rules.specs.Edits.{Edit, move_file, resize_file, plan_move, plan_resize, counted_verdict, verdict_of, image_after}
+use Rattle.edit_rules.specs.Edits.{Edit, Account, move_file, resize_file, plan_move, plan_resize, counted_verdict, verdict_of, image_after}
+use Rattle.worked.specs.Handed.{handed}
 use Rattle.worked.specs.Image.{master, master_words, master_bytes}
 
 -- ---- the image opens, and what it reads as
@@ -68,9 +68,9 @@ pub used : used_of master ≡ 1370
 unfolding used_of regions_behind_table program_in own_region total_size
 used = rw (nodes, no_program, header.0, header.1)
 
--- the record made of it (Records)
-abbrev pub fresh : Totals
-fresh = record { used = 1370; largest = 6656; edits = 0 }
+-- with the record made of it (Records)
+abbrev pub fresh : Account
+fresh = handed 1370 6656 0
 
 -- ---- what is written when `a` goes elsewhere, or gets n bytes where it is
 
@@ -86,7 +86,7 @@ written_for place kept lost = written_image (record {
 abbrev pub moved_a : ℕ → List ℕ
 moved_a to = written_for (at to 0x100) 0x100 (at 0x500 0x100)
 
-abbrev pub resized_a : ℕ → List ℕ
+abbrev resized_a : ℕ → List ℕ
 resized_a n = written_for (at 0x500 n) 0 (at (0x500 + n) (0x100 - n))
 
 pub moved-used : used_of (moved_a 0x600) ≡ 1370
@@ -104,6 +104,10 @@ moved-free = refl
 resized-used : used_of (resized_a 0x1B00) ≡ 8026
 unfolding master put table_of nodes_in nodes_of nodes_from node_at name_at count be24 be32 texts_of encode entries_bytes parent_of parent_below written_image image_with_table used_of regions_behind_table program_of program_in own_region total_size
 resized-used = refl
+
+resized-free : free_space_of (resized_a 0x1B00) ≡ at 1114 166 ∷ []
+unfolding master put table_of nodes_in nodes_of nodes_from node_at name_at count be24 be32 texts_of encode entries_bytes parent_of parent_below written_image image_with_table used_in regions_behind_table program_of program_in own_region free_regions runs is_used nonempty_regions
+resized-free = refl
 
 -- the paths `a/` and `..`
 abbrev a/ : List ℕ
@@ -129,8 +133,8 @@ abbrev four : List ℕ
 four = 0 ∷ 0 ∷ 0 ∷ 0 ∷ []
 
 moves : on_master (move_file 1 0x600) ≡ Ok tt
-unfolding verdict_of counted_verdict totals_verdict plan_move max_size_from size_beside_free table_verdict place_verdict limits is_shallow is_shallow_from dirs_open_at texts_of encode entries_bytes parent_of parent_below set_place
-moves = rw (opens, nodes, free, header.3, header.0, header.1, free, used, moved-used)
+unfolding verdict_of counted_verdict team_verdict totals_verdict remainders total_size plan_move max_size_from size_beside_free table_verdict place_verdict limits is_shallow is_shallow_from dirs_open_at texts_of encode entries_bytes parent_of parent_below set_place
+moves = rw (opens, nodes, free, header.3, header.0, header.1, free, used, moved-used, moved-free)
 
 moved-is : moved_to 0x600 ≡ moved_a 0x600
 unfolding image_after plan_move max_size_from size_beside_free set_place
@@ -169,7 +173,7 @@ pub record Marked : Type 0 where
   pub P12 : (open_file_answer master master_words 1 ≡ Ok window_of_a) × (seek_of window_of_a (Current (negsuc 0)) ≡ Err InvalidSeek) × (number_of InvalidSeek ≡ 23)
 
 pub marked : Marked
-unfolding max_file_size_answer max_region_size_answer allocate_answer lookup_answer entry_answer open_file_answer max_size_from size_beside_free allocation_of is_power_among largest_rest better_of align_up verdict_of counted_verdict totals_verdict plan_move plan_resize table_verdict place_verdict limits is_shallow is_shallow_from dirs_open_at texts_of encode entries_bytes parent_of parent_below lookup follow components child_of first_child are_same_bytes set_place components_of units
+unfolding max_file_size_answer max_region_size_answer allocate_answer lookup_answer entry_answer open_file_answer max_size_from size_beside_free allocation_of is_power_among largest_rest better_of align_up verdict_of counted_verdict team_verdict totals_verdict remainders total_size plan_move plan_resize table_verdict place_verdict limits is_shallow is_shallow_from dirs_open_at texts_of encode entries_bytes parent_of parent_below lookup follow components child_of first_child are_same_bytes set_place components_of units
 marked = record {
   P1 = rw (opens, nodes, free);
   P2 = rw (opens, free);
@@ -177,7 +181,7 @@ marked = record {
   P4 = (rw (opens, nodes), refl);
   P5 = (moves, moved);
   P6 = (rw (opens, nodes, free), refl);
-  P7 = rw (opens, nodes, free, header.3, header.0, header.1, free, used, resized-used);
+  P7 = rw (opens, nodes, free, header.3, header.0, header.1, free, used, resized-used, resized-free);
   P8 = (rw (opens, nodes, free), refl);
   P9 = rw (opens, nodes);
   P10 = (rw (opens, nodes), refl);

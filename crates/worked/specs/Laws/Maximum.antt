@@ -2,7 +2,7 @@
 -- `b` more. Assumes nothing.
 use Rattle.std.specs.Prelude.{Ok, Err}
 use Rattle.refusal.specs.Refusal.{Verdict}
-use Rattle.std.specs.Prelude.{ℕ, ◌-◌, ◌^◌, ◌≡◌, refl, List, [], ◌∷◌, replicate}
+use Rattle.std.specs.Prelude.{ℕ, ◌≡◌, refl, List, [], ◌∷◌, replicate}
 use Rattle.endian.specs.Bytes.{be24, be32, be32_bytes, put, are_same_bytes}
 use Rattle.refusal.specs.declared.Refusal.TheVariants.{LimitOrMemory, NotEnoughSpace, TableAboveMaximum}
 use Rattle.refusal.specs.Refusal.{number_of}
@@ -16,11 +16,12 @@ use Rattle.space.specs.Used.{is_used, nonempty_regions, total_size}
 use Rattle.space.specs.Layout.{are_disjoint, is_disjoint_from_all, are_pairwise_disjoint, are_below, are_disjoint_below}
 use Rattle.space.specs.Free.{runs, free_regions}
 use Rattle.space.specs.MaxRegionSize.{size_beside_free, max_size_from}
-use Rattle.totals.specs.Totals.{totals_verdict}
+use Rattle.totals.specs.Totals.{remainders, team_verdict, totals_verdict}
 use Rattle.executable.specs.Program.{program_of, program_in, own_region}
 use Rattle.opened.specs.Opening.{table_of, nodes_in, opening, regions_behind_table, used_in, free_space_of, used_of, layout_verdict, disc_of}
 use Rattle.edit_rules.specs.Change.{Change, nothing, change, filled, image_with_table, written_image, table_verdict, place_verdict}
 use Rattle.edit_rules.specs.Edits.{Edit, insert_file, move_file, resize_file, fill_file, rewrite, table_change, insert_verdict, plan_of, plan_move, plan_resize, plan_fill, counted_verdict, verdict_of}
+use Rattle.worked.specs.Handed.{most, handed}
 use Rattle.worked.specs.Image.{master, master_words}
 use Rattle.worked.specs.Laws.Marked.{at, fresh}
 
@@ -64,7 +65,7 @@ stated = (refl, refl, refl, refl, refl)
 unfoldable pub tight : ℕ → List ℕ
 tight m = put (stating m) 0x450 (be32_bytes 0x45A)
 
-tight-opens : (m : ℕ) → opening (tight m) master_words ≡ Ok tt
+pub tight-opens : (m : ℕ) → opening (tight m) master_words ≡ Ok tt
 unfolding tight stating master put opening layout_verdict header_verdict all_fields_verdict field_verdict fields bounds_verdict table_of check nodes_in nodes_of nodes_from node_at name_at count entries_verdict entry_verdict is_unended walk name_verdict next_verdict dirs_open_at is_plain is_safe be24 be32 used_in regions_behind_table program_of program_in own_region nonempty_regions are_disjoint_below are_pairwise_disjoint is_disjoint_from_all are_disjoint are_below units
 tight-opens m = refl
 
@@ -72,11 +73,11 @@ tight-nodes : (m : ℕ) → nodes_in (tight m) ≡ directory [] 2 ∷ file (0x61
 unfolding tight stating master put table_of nodes_in nodes_of nodes_from node_at name_at count be24 be32
 tight-nodes m = refl
 
-tight-header : (fst_offset (tight 0) ≡ 0x440) × (fst_size (tight 0) ≡ 0x1A) × (fst_max_size (tight 0) ≡ 0) × (fst_max_size (tight 0x1A) ≡ 0x1A)
+pub tight-header : (fst_offset (tight 0) ≡ 0x440) × (fst_size (tight 0) ≡ 0x1A) × (fst_max_size (tight 0) ≡ 0) × (fst_max_size (tight 0x1A) ≡ 0x1A)
 unfolding tight stating master put be32
 tight-header = (refl, refl, refl, refl)
 
-tight-free : free_space_of (tight 0) ≡ at 1370 6822 ∷ []
+pub tight-free : free_space_of (tight 0) ≡ at 1370 6822 ∷ []
 unfolding tight stating master put table_of nodes_in nodes_of nodes_from node_at name_at count be24 be32 used_in regions_behind_table program_of program_in own_region free_regions runs is_used nonempty_regions
 tight-free = refl
 
@@ -112,13 +113,21 @@ slack-rewritten : used_of (written_image (table_change (directory [] 2 ∷ file 
 unfolding slack stating master put table_of nodes_in nodes_of nodes_from node_at name_at count be24 be32 texts_of encode entries_bytes parent_of parent_below written_image image_with_table used_of regions_behind_table program_of program_in own_region total_size
 slack-rewritten = refl
 
+slack-freed : free_space_of (written_image (table_change (directory [] 2 ∷ file (0x61 ∷ []) 0x500 0x100 ∷ [])) (slack 0x1A)) ≡ at 1114 166 ∷ at 1536 6656 ∷ []
+unfolding slack stating master put table_of nodes_in nodes_of nodes_from node_at name_at count be24 be32 texts_of encode entries_bytes parent_of parent_below written_image image_with_table used_in regions_behind_table program_of program_in own_region free_regions runs is_used nonempty_regions
+slack-freed = refl
+
 -- ---- the images that are written
 
 rewritten : (m : ℕ) → used_of (written_image (table_change (directory [] 2 ∷ file (0x61 ∷ []) 0x500 0x100 ∷ [])) (stating m)) ≡ 1370
 unfolding stating master put table_of nodes_in nodes_of nodes_from node_at name_at count be24 be32 texts_of encode entries_bytes parent_of parent_below written_image image_with_table used_of regions_behind_table program_of program_in own_region total_size
 rewritten m = refl
 
-abbrev insert_b : Edit
+rewritten-free : (m : ℕ) → free_space_of (written_image (table_change (directory [] 2 ∷ file (0x61 ∷ []) 0x500 0x100 ∷ [])) (stating m)) ≡ at 1114 166 ∷ at 1536 6656 ∷ []
+unfolding stating master put table_of nodes_in nodes_of nodes_from node_at name_at count be24 be32 texts_of encode entries_bytes parent_of parent_below written_image image_with_table used_in regions_behind_table program_of program_in own_region free_regions runs is_used nonempty_regions
+rewritten-free m = refl
+
+abbrev pub insert_b : Edit
 insert_b = insert_file 0 (0x62 ∷ [])
 
 abbrev with_b : Change
@@ -131,13 +140,17 @@ plan-b : (m : ℕ) → plan_of insert_b (disc_of (stating m)) ≡ change 2 with_
 unfolding insert_verdict insert_at splice raised_next child_of first_child are_same_bytes is_plain is_safe parent_of parent_below dirs_open_at units
 plan-b m = rw (nodes m)
 
-tight-plan : (m : ℕ) → plan_of insert_b (disc_of (tight m)) ≡ change 2 tight_with_b
+pub tight-plan : (m : ℕ) → plan_of insert_b (disc_of (tight m)) ≡ change 2 tight_with_b
 unfolding insert_verdict insert_at splice raised_next child_of first_child are_same_bytes is_plain is_safe parent_of parent_below dirs_open_at units
 tight-plan m = rw (tight-nodes m)
 
 inserted : (m : ℕ) → used_of (written_image with_b (stating m)) ≡ 1384
 unfolding stating master put table_of nodes_in nodes_of nodes_from node_at name_at count be24 be32 texts_of encode entries_bytes parent_of parent_below written_image image_with_table used_of regions_behind_table program_of program_in own_region total_size
 inserted m = refl
+
+inserted-free : (m : ℕ) → free_space_of (written_image with_b (stating m)) ≡ at 1128 152 ∷ at 1536 6656 ∷ []
+unfolding stating master put table_of nodes_in nodes_of nodes_from node_at name_at count be24 be32 texts_of encode entries_bytes parent_of parent_below written_image image_with_table used_in regions_behind_table program_of program_in own_region free_regions runs is_used nonempty_regions
+inserted-free m = refl
 
 -- `a` filled with as many bytes as it has
 abbrev clip : List ℕ
@@ -150,6 +163,10 @@ plan-clip = rw (nodes 0x19)
 clipped : used_of (put (stating 0x19) 0x500 clip) ≡ 1370
 unfolding stating master put table_of nodes_in nodes_of nodes_from node_at name_at count be24 be32 used_of regions_behind_table program_of program_in own_region total_size
 clipped = refl
+
+clipped-free : free_space_of (put (stating 0x19) 0x500 clip) ≡ at 1114 166 ∷ at 1536 6656 ∷ []
+unfolding stating master put table_of nodes_in nodes_of nodes_from node_at name_at count be24 be32 used_in regions_behind_table program_of program_in own_region free_regions runs is_used nonempty_regions
+clipped-free = refl
 
 -- ---- the examples
 
@@ -176,23 +193,23 @@ pub record Maximum : Type 0 where
   -- 26 comes before the table's 21: `a` lies right behind the table
   pub room-last : (verdict_of insert_b fresh (tight 0x1A) master_words 0x28 ≡ Err TableAboveMaximum) × (verdict_of insert_b fresh (tight 0) master_words 0x28 ≡ Err NotEnoughSpace)
   -- and before 25: with a record that can count no more edits
-  pub record-last : verdict_of rewrite (record { used = 1370; largest = 6656; edits = 2 ^ 32 - 1 }) (stating 0x19) master_words 0x28 ≡ Err TableAboveMaximum
+  pub record-last : verdict_of rewrite (handed 1370 6656 most) (stating 0x19) master_words 0x28 ≡ Err TableAboveMaximum
   pub number : number_of TableAboveMaximum ≡ 26
 
 pub maximum : Maximum
-unfolding verdict_of counted_verdict totals_verdict plan_move plan_resize max_size_from size_beside_free table_verdict place_verdict limits is_shallow is_shallow_from dirs_open_at texts_of encode entries_bytes parent_of parent_below set_place
+unfolding verdict_of counted_verdict team_verdict totals_verdict remainders total_size plan_move plan_resize max_size_from size_beside_free table_verdict place_verdict limits is_shallow is_shallow_from dirs_open_at texts_of encode entries_bytes parent_of parent_below set_place
 maximum = record {
-  exact = (rw (opens 0x1A, nodes 0x1A, free 0x1A, stated.0, (table 0x1A).0, (table 0x1A).1, used 0x1A, rewritten 0x1A), rw (opens 0x1A, plan-b 0x1A, stated.0));
+  exact = (rw (opens 0x1A, nodes 0x1A, free 0x1A, stated.0, (table 0x1A).0, (table 0x1A).1, used 0x1A, rewritten 0x1A, rewritten-free 0x1A), rw (opens 0x1A, plan-b 0x1A, stated.0));
   larger = (
     opens 0x19,
     rw (opens 0x19, nodes 0x19, stated.1),
     rw (opens 0x19, nodes 0x19, free 0x19, stated.1),
     rw (opens 0x19, nodes 0x19, stated.1),
   );
-  same_size = (rw (opens 0x19, nodes 0x19, used 0x19), rw (opens 0x19, plan-clip, nodes 0x19, used 0x19, clipped));
-  none = (rw (opens 0, nodes 0, free 0, stated.2, (table 0).0, (table 0).1, used 0, rewritten 0), rw (opens 0, plan-b 0, free 0, stated.2, (table 0).0, (table 0).1, used 0, inserted 0));
-  grown = (rw (opens 0x28, plan-b 0x28, free 0x28, stated.3, (table 0x28).0, (table 0x28).1, used 0x28, inserted 0x28), rw (opens 0x27, plan-b 0x27, stated.4));
-  edited-down = rw (slack-opens, slack-nodes, slack-free, slack-header.2, slack-header.0, slack-header.1, slack-used, slack-rewritten);
+  same_size = (rw (opens 0x19, nodes 0x19, used 0x19, free 0x19), rw (opens 0x19, plan-clip, nodes 0x19, used 0x19, clipped, clipped-free));
+  none = (rw (opens 0, nodes 0, free 0, stated.2, (table 0).0, (table 0).1, used 0, rewritten 0, rewritten-free 0), rw (opens 0, plan-b 0, free 0, stated.2, (table 0).0, (table 0).1, used 0, inserted 0, inserted-free 0));
+  grown = (rw (opens 0x28, plan-b 0x28, free 0x28, stated.3, (table 0x28).0, (table 0x28).1, used 0x28, inserted 0x28, inserted-free 0x28), rw (opens 0x27, plan-b 0x27, stated.4));
+  edited-down = rw (slack-opens, slack-nodes, slack-free, slack-header.2, slack-header.0, slack-header.1, slack-used, slack-rewritten, slack-freed);
   limits-first = rw (few-opens, plan-b 0x1A);
   bytes-first = rw (opens 0x1A, plan-b 0x1A);
   room-last = (rw (tight-opens 0x1A, tight-plan 0x1A, tight-header.3), rw (tight-opens 0, tight-plan 0, tight-free, tight-header.2, tight-header.0, tight-header.1));

@@ -19,13 +19,13 @@ use Rattle.space.specs.Free.{runs, free_regions}
 use Rattle.space.specs.Align.{align_up}
 use Rattle.space.specs.MaxRegionSize.{size_beside_free, max_size_from}
 use Rattle.space.specs.Allocate.{better_of, largest_rest, is_power_among, allocation_of}
-use Rattle.totals.specs.Totals.{totals_verdict}
+use Rattle.totals.specs.Totals.{remainders, team_verdict, totals_verdict}
 use Rattle.executable.specs.Dol.{words_at, largest_of}
 use Rattle.executable.specs.Program.{program_of, program_in, own_region}
 use Rattle.opened.specs.Opening.{table_of, nodes_in, regions_behind_table, used_in, layout_verdict, opening, free_space_of, used_of}
 use Rattle.edit_rules.specs.Change.{image_with_table, written_image, table_verdict, place_verdict}
 use Rattle.edit_rules.specs.Edits.{table_change, insert_file, move_file, resize_file, rewrite, insert_verdict, plan_move, plan_resize, counted_verdict, verdict_of}
-use Rattle.disc.specs.Calls.{totals_of}
+use Rattle.worked.specs.Handed.{own}
 
 -- a disc that ends at 0x900, in an image of so many bytes: the table at `fst`, file `a` of 0x100 bytes at `place`, with this name's byte
 abbrev disc : ℕ → ℕ → ℕ → ℕ → List ℕ
@@ -121,21 +121,25 @@ two-written_image : used_of (written_image (table_change (directory [] 2 ∷ fil
 unfolding two put table_of nodes_in nodes_of nodes_from node_at name_at count be24 be32 texts_of encode entries_bytes parent_of parent_below written_image image_with_table used_of regions_behind_table program_of program_in own_region words_at largest_of total_size
 two-written_image = refl
 
+two-written-free : free_space_of (written_image (table_change (directory [] 2 ∷ file (0x61 ∷ []) 0x600 0x100 ∷ [])) two) ≡ at 0x53E 0xC2 ∷ at 0x700 0x200 ∷ []
+unfolding two put table_of nodes_in nodes_of nodes_from node_at name_at count be24 be32 texts_of encode entries_bytes parent_of parent_below written_image image_with_table used_in regions_behind_table program_of program_in own_region words_at largest_of free_regions runs is_used nonempty_regions
+two-written-free = refl
+
 pub record Kept : Type 0 where
   -- `a` to where the program lies; grown into it, with no multiple of 0x8000 below the disc end
-  pub move-onto : verdict_of (move_file 1 0x700) (totals_of one 0) one 16 40 ≡ Err NotEnoughSpace
-  pub grow-onto : verdict_of (resize_file 1 0x101) (totals_of one 0) one 16 40 ≡ Err NotEnoughSpace
+  pub move-onto : verdict_of (move_file 1 0x700) (own one) one 16 40 ≡ Err NotEnoughSpace
+  pub grow-onto : verdict_of (resize_file 1 0x101) (own one) one 16 40 ≡ Err NotEnoughSpace
   -- a table that a program abuts may be written as it is, and may not grow
-  pub same-table : verdict_of rewrite (totals_of two 0) two 20 40 ≡ Ok tt
-  pub grown-table : verdict_of (insert_file 0 (0x62 ∷ [])) (totals_of two 0) two 20 40 ≡ Err NotEnoughSpace
+  pub same-table : verdict_of rewrite (own two) two 20 40 ≡ Ok tt
+  pub grown-table : verdict_of (insert_file 0 (0x62 ∷ [])) (own two) two 20 40 ≡ Err NotEnoughSpace
   pub twenty-one : number_of NotEnoughSpace ≡ 21
 
 pub kept : Kept
-unfolding verdict_of counted_verdict totals_verdict plan_move plan_resize insert_verdict insert_at splice child_of first_child are_same_bytes is_plain is_safe max_size_from size_beside_free allocation_of is_power_among largest_rest better_of align_up table_verdict place_verdict limits is_shallow is_shallow_from dirs_open_at texts_of encode entries_bytes parent_of parent_below set_place units
+unfolding verdict_of counted_verdict team_verdict totals_verdict remainders total_size plan_move plan_resize insert_verdict insert_at splice child_of first_child are_same_bytes is_plain is_safe max_size_from size_beside_free allocation_of is_power_among largest_rest better_of align_up table_verdict place_verdict limits is_shallow is_shallow_from dirs_open_at texts_of encode entries_bytes parent_of parent_below set_place units
 kept = record {
   move-onto = rw (opened.at-file.0, nodes, free);
   grow-onto = rw (opened.at-file.0, nodes, free);
-  same-table = rw (two-opens.0, two-nodes, two-free, two-header.3, two-header.0, two-header.1, two-used.1, two-written_image);
+  same-table = rw (two-opens.0, two-nodes, two-free, two-header.3, two-header.0, two-header.1, two-used.1, two-written_image, two-written-free);
   grown-table = rw (two-opens.0, two-nodes, two-free, two-header.3, two-header.0, two-header.1);
   twenty-one = refl;
 }

@@ -20,12 +20,12 @@ use Rattle.space.specs.Free.{runs, free_regions}
 use Rattle.space.specs.MaxRegionSize.{size_beside_free, max_size_from}
 use Rattle.space.specs.Align.{align_up}
 use Rattle.space.specs.Allocate.{better_of, largest_rest, is_power_among, allocation_of}
-use Rattle.totals.specs.Totals.{totals_verdict}
+use Rattle.totals.specs.Totals.{remainders, team_verdict, totals_verdict}
 use Rattle.executable.specs.Program.{program_of, program_in, own_region}
 use Rattle.opened.specs.Opening.{table_of, nodes_in, opening, free_space_of, used_of, used_in, regions_behind_table, layout_verdict}
 use Rattle.edit_rules.specs.Change.{image_with_table, written_image, table_verdict, place_verdict}
 use Rattle.edit_rules.specs.Edits.{Edit, insert_file, insert_directory, move_file, resize_file, rewrite, insert_verdict, plan_move, plan_resize, counted_verdict, verdict_of, image_after}
-use Rattle.disc.specs.Calls.{totals_of}
+use Rattle.worked.specs.Handed.{own}
 
 -- ---- an image that ends at e: file `a` of 8 bytes at 0x500, `b` of 4 bytes right behind it; the table's last text, `zz`, is no entry's
 
@@ -51,10 +51,10 @@ image_to e =
 
 -- 20 working words are enough for three entries, and 40 working bytes for their table; the record is one made of the image
 abbrev pub verdict_on : Edit → List ℕ → Verdict
-verdict_on ed image = verdict_of ed (totals_of image 0) image 20 40
+verdict_on ed image = verdict_of ed (own image) image 20 40
 
 abbrev pub after : Edit → List ℕ → List ℕ
-after ed image = image_after ed (totals_of image 0) image 20 40
+after ed image = image_after ed (own image) image 20 40
 
 -- ---- up to 0x600
 
@@ -72,7 +72,7 @@ pub record Worked : Type 0 where
   pub exists : (verdict_on (insert_file 0 (0x62 ∷ [])) small ≡ Err AlreadyExists) × (verdict_on (insert_directory 0 (0x62 ∷ [])) small ≡ Err AlreadyExists) × (number_of AlreadyExists ≡ 19)
 
 pub worked : Worked
-unfolding small plan_move plan_resize insert_verdict child_of first_child are_same_bytes put opening layout_verdict header_verdict all_fields_verdict field_verdict fields bounds_verdict table_of check nodes_in nodes_of nodes_from node_at name_at count entries_verdict entry_verdict is_unended walk name_verdict next_verdict dirs_open_at is_plain is_safe be24 be32 used_in regions_behind_table program_of program_in own_region nonempty_regions are_disjoint_below are_pairwise_disjoint is_disjoint_from_all are_disjoint are_below free_regions runs is_used used_of total_size totals_verdict image_after verdict_of counted_verdict table_verdict place_verdict limits is_shallow is_shallow_from texts_of encode entries_bytes parent_of parent_below set_place written_image image_with_table max_size_from size_beside_free units
+unfolding small plan_move plan_resize insert_verdict child_of first_child are_same_bytes put opening layout_verdict header_verdict all_fields_verdict field_verdict fields bounds_verdict table_of check nodes_in nodes_of nodes_from node_at name_at count entries_verdict entry_verdict is_unended walk name_verdict next_verdict dirs_open_at is_plain is_safe be24 be32 used_in regions_behind_table program_of program_in own_region nonempty_regions are_disjoint_below are_pairwise_disjoint is_disjoint_from_all are_disjoint are_below free_regions runs is_used used_of total_size remainders team_verdict totals_verdict image_after verdict_of counted_verdict table_verdict place_verdict limits is_shallow is_shallow_from texts_of encode entries_bytes parent_of parent_below set_place written_image image_with_table max_size_from size_beside_free units
 worked = record {
   moved = (refl, refl, refl);
   rewritten = (refl, refl, refl, refl);
@@ -122,9 +122,13 @@ grown-used : used_of grown ≡ 1144
 unfolding large put table_of nodes_in nodes_of nodes_from node_at name_at count be24 be32 texts_of encode entries_bytes parent_of parent_below written_image image_with_table used_of regions_behind_table program_of program_in own_region total_size
 grown-used = refl
 
+grown-free : free_space_of grown ≡ at 0x468 0xA0 ∷ at 0x50C 0x7AF4 ∷ at 0x800C 0x34 ∷ []
+unfolding large put table_of nodes_in nodes_of nodes_from node_at name_at count be24 be32 texts_of encode entries_bytes parent_of parent_below written_image image_with_table used_in regions_behind_table program_of program_in own_region free_regions runs is_used nonempty_regions
+grown-free = refl
+
 grows : verdict_on (resize_file 1 12) large ≡ Ok tt
-unfolding verdict_of counted_verdict totals_verdict plan_resize max_size_from size_beside_free allocation_of is_power_among largest_rest better_of align_up table_verdict place_verdict limits is_shallow is_shallow_from dirs_open_at texts_of encode entries_bytes parent_of parent_below set_place
-grows = rw (large-opens, large-nodes, large-free, large-header.2, large-header.0, large-header.1, large-free, large-used, grown-used)
+unfolding verdict_of counted_verdict team_verdict totals_verdict remainders total_size plan_resize max_size_from size_beside_free allocation_of is_power_among largest_rest better_of align_up table_verdict place_verdict limits is_shallow is_shallow_from dirs_open_at texts_of encode entries_bytes parent_of parent_below set_place
+grows = rw (large-opens, large-nodes, large-free, large-header.2, large-header.0, large-header.1, large-free, large-used, grown-used, grown-free)
 
 grown-is : after (resize_file 1 12) large ≡ grown
 unfolding image_after plan_resize max_size_from size_beside_free allocation_of is_power_among largest_rest better_of align_up set_place

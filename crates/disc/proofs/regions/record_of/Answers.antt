@@ -15,4 +15,4 @@ new-used-requires c = sorted_backed _ _ _ _ _ c.disc.invariant _ c.disc.view_is 
 
 pub returns : goal.returns
 returns c =
-    λ image m. recorded image _ m _ _ (open_backed _ _ _ _ _ c.disc.invariant _ c.disc.view_is image m) _ _ _ _ c.end-disc_end.ensures (omega (arith, c.start.ensures, c.table_size.ensures)) c.used_size.ensures (rw (c.new-used.ensures, behind-first c.disc.inside.words.now c.disc.inside.used) at c.largest_after.ensures)
+    λ image m. recorded image _ m _ _ (open_backed _ _ _ _ _ c.disc.invariant _ c.disc.view_is image m) _ _ _ _ c.end-disc_end.ensures (omega (arith, c.start.ensures, c.table_size.ensures)) c.used_size.ensures (rw (c.new-used.ensures, behind-first c.disc.inside.words.now c.disc.inside.used) at c.largest_after.ensures) _ _ c.new_teams.ensures

@@ -16,10 +16,13 @@ returns-in_err-decision c =
       is = λ image m. rw c.in_err-decision.was refl;
     })
 
-pub returns-in_err-enter_decision : goal.returns-in_err-enter_decision
-returns-in_err-enter_decision c =
-    let p = err_from_is_err_and c.from_residual-in_err-enter_decision.result c.from_residual-in_err-enter_decision.ensures.1 in
-    rw (p.1, p.2) (settled _ _ _ _ _ _ c.in_ok-decision.was c.in_err-enter_decision.ensures)
+pub returns-in_err-move_on : goal.returns-in_err-move_on
+returns-in_err-move_on c =
+    let p = err_from_is_err_and c.from_residual-in_err-move_on.result c.from_residual-in_err-move_on.ensures.1 in
+    let e = c.in_err-move_on.ensures in
+    rw (p.1, p.2) (settled _ _ _ _ _ _ _ c.in_ok-decision.was c.change_of.ensures.change e.answer e.accepted e.refused)
 
 pub returns : goal.returns
-returns c = settled _ _ _ _ _ _ c.in_ok-decision.was c.in_ok-enter_decision.ensures
+returns c =
+    let e = c.in_ok-move_on.ensures in
+    settled _ _ _ _ _ _ _ c.in_ok-decision.was c.change_of.ensures.change e.answer e.accepted e.refused

@@ -1,0 +1,6 @@
+-- What follows from the definitions.
+pub mod Same
+pub mod Passed
+pub mod Remainders
+pub mod Moved
+pub mod NewTeams
