@@ -238,4 +238,5 @@ def main():
         s.files(0x18001, [(path, 0) for path in paths], number, why)
 
 
-main()
+if __name__ == "__main__":
+    main()

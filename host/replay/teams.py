@@ -7,6 +7,8 @@ its number is written by hand as well, and the two have to agree; but for the la
 import copy
 import struct
 
+from masters import checksum
+
 MOST, TABLE, CLUSTER, TEAMS = 0xFFFFFFFF, 0x440, 0x8000, 16
 
 
@@ -284,13 +286,6 @@ class Record:
 
 def n(number):
     return str(number) if number < 1 << 20 else hex(number)
-
-
-def checksum(image):
-    total = 0xCBF29CE484222325
-    for byte in image:
-        total = (total ^ byte) * 0x100000001B3 & 0xFFFFFFFFFFFFFFFF
-    return total
 
 
 class Script:

@@ -42,7 +42,14 @@ pub extern "C" fn counter_move_file(
         (loan image.old words.old bytes.old totals.old)
         (loan image.new words.new bytes.new totals.new) result }
 {
-    give_done(image, words, bytes, totals, team, Edit::Move { file, offset })
+    give_done(
+        image,
+        words,
+        bytes,
+        totals,
+        team,
+        Edit::Move { file, offset },
+    )
 }
 
 #[unsafe(no_mangle)]
@@ -59,7 +66,14 @@ pub extern "C" fn counter_resize_file(
         (loan image.old words.old bytes.old totals.old)
         (loan image.new words.new bytes.new totals.new) result }
 {
-    give_done(image, words, bytes, totals, team, Edit::Resize { file, size })
+    give_done(
+        image,
+        words,
+        bytes,
+        totals,
+        team,
+        Edit::Resize { file, size },
+    )
 }
 
 #[unsafe(no_mangle)]
@@ -143,7 +157,8 @@ pub extern "C" fn counter_insert_directory(
     name: &[u8],
     answer: &mut u32,
 ) -> u32
-    ensures { IsEdited (entry_reply (one_word answer.old)) (edits.insert_directory parent name.now) team
+    ensures { IsEdited (entry_reply (one_word answer.old))
+        (edits.insert_directory parent name.now) team
         (loan image.old words.old bytes.old totals.old)
         (loan image.new words.new bytes.new totals.new) (reply result (one_word answer.new)) }
 {
@@ -163,7 +178,8 @@ pub extern "C" fn counter_make_directories(
     path: &[u8],
     answer: &mut u32,
 ) -> u32
-    ensures { IsEdited (entry_reply (one_word answer.old)) (edits.make_directories start path.now) team
+    ensures { IsEdited (entry_reply (one_word answer.old))
+        (edits.make_directories start path.now) team
         (loan image.old words.old bytes.old totals.old)
         (loan image.new words.new bytes.new totals.new) (reply result (one_word answer.new)) }
 {

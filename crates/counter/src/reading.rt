@@ -92,8 +92,8 @@ pub extern "C" fn counter_totals(image: &[u8], words: &mut [u32], answer: &mut D
     give(answer, disc::totals(image, words))
 }
 
-// A totals record of the image: used bytes, the largest free region's size, and teams of these limits and
-// shares, in the order of their numbers, that have taken nothing.
+// A totals record of the image: used bytes, the largest free region's size, and teams of these
+// limits and shares, in the order of their numbers, that have taken nothing.
 #[unsafe(no_mangle)]
 pub extern "C" fn counter_make_record(
     image: &[u8],

@@ -13,7 +13,7 @@ use Rattle.opened.specs.Inner.Disc.{Opened, Means}
 use Rattle.opened.proofs.Laws.Meant.{start_meant, room_meant, end_meant, total_meant}
 use Rattle.edit_rules.specs.Edits.{Account}
 use Rattle.edit.specs.declared.decision.Decision.{Decision}
-use Rattle.edit.specs.Inner.Accounting.{OfUsed, change_as, change_for, Moved, moved_with, moved_as, moved_by, account_with, decision_unless, settled_as, account_of}
+use Rattle.edit.specs.Inner.Accounting.{OfUsed, change_as, change_for, moved_with, moved_as, moved_by, account_with, decision_unless, settled_as, account_of}
 
 -- what an edit does to used and free bytes, by the disc's own numbers
 pub changed-as : (image : List ℕ) (d : Opened) → Means image d → (behind : List DiscRegion) (size : ℕ) (old new : DiscRegion) (before after free largest : ℕ) → before ≡ d.disc.table_size + old.size → after ≡ size + new.size →

@@ -15,7 +15,8 @@ use totals::{SpaceChange, Totals};
 // from the used regions in the words.
 fn space_change(disc: &OpenDisc<'_>, size: usize, old: DiscRegion, new: DiscRegion) -> SpaceChange
     requires { disc.now.disc.start + size ≤ disc.now.disc.end }
-    ensures change { OfUsed disc.now (λ image behind. result ≡ change_as image behind size old new) }
+    ensures change { OfUsed disc.now (λ image behind.
+        result ≡ change_as image behind size old new) }
     ensures before_fits { result.before < 2 ^ 34 }
     ensures after_fits { result.after < 2 ^ 34 }
 {
@@ -34,8 +35,8 @@ fn space_change(disc: &OpenDisc<'_>, size: usize, old: DiscRegion, new: DiscRegi
     }
 }
 
-// What an edit that decides on this does to them; where the table stays and no file moves they are as they
-// were.
+// What an edit that decides on this does to used and free bytes; where the table stays and no file moves they
+// are as they were.
 fn change_of(disc: &OpenDisc<'_>, decision: Decision) -> SpaceChange
     requires { OnDisc disc.now.disc (Ok decision) }
     ensures change { OfUsed disc.now (λ image behind. result ≡ change_for image behind decision) }

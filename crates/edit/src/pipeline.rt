@@ -62,8 +62,8 @@ fn of_bytes(clip: &[u8])
     ensures { AllBytes clip.now }
 {}
 
-/// What an edit decides on, on an open disc: all its tests but the last, and the new table in the working
-/// bytes. No image is read, so that the disc may have been opened from the parts of one.
+/// What an edit decides on, on an open disc: all its own tests, neither the team's nor the record's, and the new
+/// table in the working bytes. No image is read, so that the disc may have been opened from the parts of one.
 pub fn decide(disc: &OpenDisc<'_>, bytes: &mut [u8], edit: Edit<'_>) -> Result<Decision, Refusal>
     ensures { let clip = clip_of edit.entry in
         IsEditDecided (edit_of edit.entry) disc.now (length bytes.old) bytes.new clip result }

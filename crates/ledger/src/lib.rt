@@ -21,7 +21,8 @@ pub fn fill_reads()
     ensures { FillReads }
 {}
 
-// A record handed on through the list is that of the last image.
+// A record handed on through the list is that of the last image, and tells what each team has taken, in how
+// many edits.
 pub fn record_tells()
     ensures { RecordTells }
 {}

@@ -1,11 +1,12 @@
-// The totals record that goes into an edit and comes back: used bytes, the largest free region, and what each
-// team may take and has taken.
+// The totals record that goes into an edit and comes back: used bytes, the largest free region, and
+// what each team may take and has taken.
 #![tactic(auto)]
 
 mod team;
 
 ghost use Rattle.std.specs.Prelude.{◌≡◌, ◌<◌, ◌^◌, OnOk, OnErr};
 ghost use Rattle.totals.specs.Totals.{totals_verdict, moved_totals};
+ghost use Rattle.totals.specs.Inner.Moving.{used_after};
 
 use refusal::{Refusal, Verdict};
 pub use team::{TEAMS, Team, new_teams, team_number};
@@ -24,7 +25,23 @@ pub struct SpaceChange {
     pub largest: u32,
 }
 
-/// The totals record, which goes into an edit and comes back; in C it is lent as 66 32-bit words in a row.
+impl SpaceChange {
+    // What is used after it where `used` bytes were, or 25.
+    fn used_after(self, used: u32) -> Result<u32, Refusal>
+        requires before_fits { self.before < 2 ^ 34 }
+        requires after_fits { self.after < 2 ^ 34 }
+        ensures { result ≡ used_after used self }
+    {
+        let sum = u64::from(used) + self.after;
+        let used = sum
+            .checked_sub(self.before)
+            .ok_or(Refusal::TotalsOutOfRange)?;
+        u32::try_from(used).or(Err(Refusal::TotalsOutOfRange))
+    }
+}
+
+/// The totals record, which goes into an edit and comes back; in C it is lent as 66 32-bit words
+/// in a row.
 #[repr(C)]
 #[derive(Clone, Copy, PartialEq, Eq, Debug)]
 pub struct Totals {
@@ -48,19 +65,10 @@ impl Totals {
         ensures refused { OnErr result (self.new ≡ self.old) }
     {
         let charged = self.teams[team];
-        let taken = charged.taken_after(change)?;
-        if change.free < team::kept_for_others(&self.teams, team) {
-            return Err(Refusal::FreeBelowShares);
-        }
-        let sum = u64::from(self.used) + change.after;
-        let used = sum
-            .checked_sub(change.before)
-            .ok_or(Refusal::TotalsOutOfRange)?;
-        let used = u32::try_from(used).or(Err(Refusal::TotalsOutOfRange))?;
-        let edits = charged
-            .edits
-            .checked_add(1)
-            .ok_or(Refusal::TotalsOutOfRange)?;
+        let kept = team::kept_for_others(&self.teams, team);
+        let taken = charged.taken_after(change, kept)?;
+        let used = change.used_after(self.used)?;
+        let edits = charged.edits_after()?;
         self.used = used;
         self.largest = change.largest;
         self.teams[team] = Team {

@@ -1,7 +1,7 @@
 // The teams that edit one image by turns.
 ghost use Rattle.std.specs.Prelude.{◌≡◌, ◌<◌, ◌≤◌, ◌^◌, length};
 ghost use Rattle.totals.specs.Totals as totals_of;
-ghost use Rattle.totals.specs.Inner.{taken_after};
+ghost use Rattle.totals.specs.Inner.Moving.{taken_after, edits_after};
 
 use crate::SpaceChange;
 use refusal::Refusal;
@@ -9,8 +9,8 @@ use refusal::Refusal;
 /// How many teams a record has.
 pub const TEAMS: usize = 16;
 
-/// What a team may take of the free space of an image, and what it has taken. In C it is four 32-bit words in
-/// a row.
+/// What a team may take of the free space of an image, and what it has taken. In C it is four
+/// 32-bit words in a row.
 #[repr(C)]
 #[derive(Clone, Copy, PartialEq, Eq, Debug)]
 pub struct Team {
@@ -44,18 +44,28 @@ impl Team {
         self.share.saturating_sub(self.taken)
     }
 
-    // What the team has taken after an edit of its own, or 27; below 0 it does not go.
-    pub(crate) fn taken_after(self, change: SpaceChange) -> Result<u32, Refusal>
+    // What the team has taken after an edit of its own; below 0 it does not go. 27 above its limit,
+    // then 28 where less is free than is kept for the others.
+    pub(crate) fn taken_after(self, change: SpaceChange, kept: u64) -> Result<u32, Refusal>
         requires before_fits { change.before < 2 ^ 34 }
         requires after_fits { change.after < 2 ^ 34 }
-        ensures { result ≡ taken_after self change }
+        ensures { result ≡ taken_after self change kept }
     {
-        let SpaceChange { before, after, .. } = change;
-        let taken = u64::from(self.taken) + after;
-        if taken > u64::from(self.limit) + before {
+        let taken = u64::from(self.taken) + change.after;
+        if taken > u64::from(self.limit) + change.before {
             return Err(Refusal::TakenAboveLimit);
         }
-        Ok(taken.saturating_sub(before) as u32)
+        if change.free < kept {
+            return Err(Refusal::FreeBelowShares);
+        }
+        Ok(taken.saturating_sub(change.before) as u32)
+    }
+
+    // How many edits of the team are accepted with one more, or 25.
+    pub(crate) fn edits_after(self) -> Result<u32, Refusal>
+        ensures { result ≡ edits_after self }
+    {
+        self.edits.checked_add(1).ok_or(Refusal::TotalsOutOfRange)
     }
 }
 

@@ -154,7 +154,7 @@ pub record DecidedAs (v : Verdict) (p : Plan) (image : List ℕ) (room : ℕ) (b
   pub answer : carried_verdict d ≡ v
   pub after : carried_image d bytes clip image ≡ (if is_err v then image else plan_image p image)
 
--- by all tests but 25 on a disc, with no clip
+-- by all tests but the team's and the record's on a disc, with no clip
 abbrev pub IsDecided : Plan → List ℕ → Disc → ℕ → ℕ → List ℕ → Result Decision Refusal → Type 0
 IsDecided p image x words room bytes d = DecidedAs (plan_verdict p x words room) p image room bytes [] d
 

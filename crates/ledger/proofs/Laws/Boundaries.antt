@@ -1,19 +1,23 @@
 -- The definitions of the list theorems at their bounds: the lists and files that they are to speak of (no call, and a call of each kind with the
--- most words; a record handed on; files that no accepted edit names), and a table one byte above the maximum. A hypothesis that held of none
+-- most words; a record handed on; a start with nothing taken; files that no accepted edit names), and a table one byte above the maximum. A hypothesis that held of none
 -- of these would leave its theorem with nothing to say. Assumes nothing.
-use Rattle.std.specs.Prelude.{Ok, Err, ℕ, ◌+◌, ◌^◌, ◌<◌, ◌≡◌, refl, Bool, true, false, List, [], ◌∷◌}
+use Rattle.std.specs.Prelude.{Ok, Err, ℕ, ◌+◌, ◌^◌, ◌<◌, ◌≡◌, refl, Bool, true, false, List, [], ◌∷◌, length, sum}
 use Rattle.std.proofs.lemmas.Bool.{false≢true}
 use Rattle.std.proofs.Common.{arith, ne_eqb}
 use Rattle.endian.specs.Bytes.{AllBytes}
 use Rattle.header.specs.Verdicts.{fst_size, fst_max_size}
 use Rattle.refusal.specs.declared.Refusal.{Refusal}
 use Rattle.totals.specs.declared.Totals.{Totals}
-use Rattle.opened.specs.Opening.{table_of}
+use Rattle.space.specs.Used.{total_size}
+use Rattle.totals.proofs.Laws.NewTeams.{new-taken, new-shares}
+use Rattle.opened.specs.Opening.{table_of, free_space_of}
+use Rattle.disc.specs.Calls.{record_answer}
 use Rattle.edit_rules.specs.Edits.{Edit, insert_file, insert_directory, make_directories, move_file, resize_file, fill_file, rewrite, Account, account, verdict_of, totals_after}
 use Rattle.ledger.specs.Ledger.{Ledger, files_before, Report}
 use Rattle.ledger.specs.Runs.{Call, image_after_all, IsHandedOn, accepted_count, AllWithin}
 use Rattle.ledger.specs.Spared.{IsSpared}
-use Rattle.ledger.specs.Theorem.{WithinMaximum}
+use Rattle.ledger.specs.Theorem.{IsFairStart, WithinMaximum}
+use Rattle.ledger.proofs.Laws.RecordTells.{made_of}
 
 -- ---- the lists
 
@@ -38,6 +42,12 @@ handed-none t image = tt
 pub handed-two : (t : Totals) (image : List ℕ) (x y : Edit) (j k words bytes : ℕ) →
     IsHandedOn t (call x (account t j) words bytes ∷ call y (account (totals_after x (account t j) image words bytes) k) words bytes ∷ []) image
 handed-two t image x y j k words bytes = (refl, (refl, tt))
+
+-- LAW: a record made of an image whose free bytes are all shares together, none more, is a fair start
+pub fair-made : (image : List ℕ) (w : ℕ) (limits shares : List ℕ) (t : Totals) → length limits ≡ length shares → record_answer image w limits shares ≡ Ok t → sum shares ≡ total_size (free_space_of image) → IsFairStart image t
+fair-made image w limits shares t l e s =
+    let m = (made_of image w limits shares t e).1 in
+    record { nothing-taken = rw m (new-taken limits shares); shares-free = rw (m, new-shares limits shares l, s) (omega arith) }
 
 -- ---- the files that no accepted edit names: file f, whatever the ledger holds
 

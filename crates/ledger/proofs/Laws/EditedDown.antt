@@ -1,7 +1,7 @@
 -- An image whose table is above the maximum may be edited down to it: a rewrite that drops texts which no entry uses,
 -- or writes fewer of them, does it wherever the tree written anew is within the maximum. Assumes nothing.
 use Rattle.std.specs.Prelude.{Ok}
-use Prim.Native.Nat.{ℕ, ◌+◌, ◌^◌, ◌<◌, ◌≤◌}
+use Prim.Native.Nat.{ℕ, ◌<◌, ◌≤◌}
 use Rattle.std.specs.Prelude.{◌≡◌, refl, List}
 use Rattle.std.proofs.Common.{◌∙◌, inr, arith}
 use borrow.Author.Tests.{le-ltb}

@@ -11,7 +11,7 @@ use Rattle.executable.specs.Program.{program_of, program_in}
 use Rattle.executable.specs.Laws.ProgramLaws.{Accepted, absent, present, accepted, own-cases}
 use Rattle.opened.specs.Opening.{opening}
 use Rattle.disc.specs.Calls.{program_answer}
-use Rattle.edit_rules.specs.Edits.{Account, verdict_of, image_after}
+use Rattle.edit_rules.specs.Edits.{verdict_of, image_after}
 use Rattle.ledger.specs.Ledger.{Ledger, ledger_with}
 use Rattle.ledger.specs.Runs.{Call, image_after_all, AllWithin}
 use Rattle.ledger.specs.Theorem.{SameProgram}

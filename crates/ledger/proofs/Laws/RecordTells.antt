@@ -140,11 +140,11 @@ record-tells image w₀ w limits shares t calls b l s e h a on =
       totals = tells-along calls image t (rw m.1) on;
       afresh = λ limits shares. rw k.opens;
       takes = λ j d.
-      let none : (team_of t j).taken ≡ 0 = ap (λ (t : Totals). (team_of t j).taken) m.1 ∙ new-taken limits shares j in
-      takes-along calls image t j (omega (arith, sixteen, d)) on ∙ rw none refl;
+          let none : (team_of t j).taken ≡ 0 = ap (λ (t : Totals). (team_of t j).taken) m.1 ∙ new-taken limits shares j in
+          takes-along calls image t j (omega (arith, sixteen, d)) on ∙ rw none refl;
       counts = λ j d.
-      let none : (team_of t j).edits ≡ 0 = ap (λ (t : Totals). (team_of t j).edits) m.1 ∙ new-edits limits shares j in
-      omega (arith, none, counts-along calls image t j (omega (arith, sixteen, d)) on);
+          let none : (team_of t j).edits ≡ 0 = ap (λ (t : Totals). (team_of t j).edits) m.1 ∙ new-edits limits shares j in
+          omega (arith, none, counts-along calls image t j (omega (arith, sixteen, d)) on);
     }
 
 -- THEOREM: a record made anew of the last image has the used bytes and the largest region of the one that was handed on, and no count

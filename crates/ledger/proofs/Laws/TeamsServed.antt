@@ -4,22 +4,20 @@ use Rattle.std.specs.Prelude.{Ok, Err, is_err}
 use Rattle.refusal.specs.Refusal.{Verdict, first, number_of}
 use Rattle.std.specs.Prelude.{ℕ, ◌+◌, ◌≤◌, ◌≡◌, Bool, true, false, cond, not, nat_le, List, [], ◌∷◌}
 use Rattle.std.proofs.Math.Path.{refl}
-use Rattle.std.proofs.Common.{ap, ◌∙◌, ⊎_elim, arith}
-use Rattle.endian.specs.Bytes.{AllBytes}
-use Rattle.refusal.specs.declared.Refusal.{Refusal}
+use Rattle.std.proofs.Common.{◌∙◌, ⊎_elim, arith}
 use Rattle.refusal.specs.declared.Refusal.TheVariants.{LimitOrMemory, NoSuchEntry, FreeBelowShares}
 use Rattle.refusal.specs.Refusal.{refuse}
 use Rattle.header.specs.Verdicts.{disc_end}
 use Rattle.space.specs.Used.{total_size}
 use Rattle.totals.specs.declared.Totals.{Totals}
 use Rattle.totals.specs.declared.SpaceChange.{SpaceChange}
-use Rattle.totals.specs.Totals.{team_of, team_verdict, totals_verdict, moved_totals}
+use Rattle.totals.specs.Totals.{team_of, team_verdict, totals_verdict}
 use Rattle.totals.proofs.Laws.Moved.{same-limit, same-share, limits-kept}
 use Rattle.totals.proofs.Laws.Remainders.{all_remainders, remainders-kept, not-28, all-left}
 use Rattle.opened.specs.Opening.{opening, used_of, free_space_of, disc_of}
 use Rattle.opened.proofs.Laws.OpeningLaws.{disc-filled}
 use Rattle.edit_rules.specs.Change.{Plan, refused, nothing, change, filled}
-use Rattle.edit_rules.specs.Edits.{Account, plan_of, plan_verdict, plan_image, space_change, totals_to, counted_verdict, verdict_of, image_after, totals_after}
+use Rattle.edit_rules.specs.Edits.{plan_of, plan_verdict, plan_image, space_change, totals_to, counted_verdict, verdict_of, image_after, totals_after}
 use Rattle.edit_rules.proofs.Laws.Accepted.{accepted}
 use Rattle.edit_rules.proofs.Laws.OwnCauses.{IsOwn, own-causes}
 use Rattle.ledger.specs.Ledger.{Ledger, first_ledger, ledger_with}

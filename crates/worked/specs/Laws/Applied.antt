@@ -16,14 +16,15 @@ use Rattle.space.specs.Free.{largest_size}
 use Rattle.space.specs.Listing.{rows_of}
 use Rattle.window.specs.Window.{new_window, count_of}
 use Rattle.totals.specs.declared.Totals.{Totals}
+use Rattle.totals.specs.Totals.{new_teams, remainders}
 use Rattle.executable.specs.Program.{program_in, own_region}
 use Rattle.opened.specs.Opening.{table_of, nodes_in, used_in, free_space_of, used_of, opening, disc_of}
-use Rattle.disc.specs.Calls.{totals_answer, program_answer, free_regions_answer, free_regions_list, totals_of, record_answer}
+use Rattle.disc.specs.Calls.{totals_answer, program_answer, free_regions_answer, free_regions_list, record_answer}
 use Rattle.disc.specs.Files.{open_file_answer}
 use Rattle.edit_rules.specs.Change.{nothing}
 use Rattle.edit_rules.specs.Edits.{Edit, rewrite, resize_file, plan_resize, plan_of, image_after}
 use Rattle.ledger.specs.Ledger.{History, Ledger, node_without_place, files_before, history_of, put_in, first_ledger}
-use Rattle.ledger.specs.Runs.{Call, image_after_all, accepted_count, AllWithin}
+use Rattle.ledger.specs.Runs.{Call, image_after_all, accepted_count, taken_after_all, AllWithin}
 use Rattle.ledger.specs.Spared.{number_after, IsSpared}
 use Rattle.ledger.specs.Theorem.{LedgerHolds, StillThere, ShowsClip, Tells, WithinMaximum}
 use Rattle.ledger.proofs.Laws.AnyMaximum.{any-maximum}
@@ -32,21 +33,23 @@ use Rattle.ledger.proofs.Laws.EditedDown.{edited-down}
 use Rattle.ledger.proofs.Laws.FillReads.{read_into, fill-reads, read_back}
 use Rattle.ledger.proofs.Laws.MaximumKept.{maximum-kept}
 use Rattle.ledger.proofs.Laws.RecordTells.{record-tells}
+use Rattle.ledger.proofs.Laws.Unbounded.{IsUnbounded}
+use Rattle.worked.specs.Laws.Handed.{handed, own}
 use Rattle.worked.specs.Image.{master, master_words}
 use Rattle.worked.specs.Laws.Marked as small
 use Rattle.worked.specs.Laws.Maximum.{stating, slack, slack-opens, slack-header}
 use Rattle.worked.specs.Laws.Maximum as stated
 use Rattle.worked.specs.Laws.ListImages.{of_a, program_bytes, first, clip, with_b, last, program, tree_b, used-regions, space, at_first, at_last}
-use Rattle.worked.specs.Laws.ListSteps.{totals, fresh, filled-b}
-use Rattle.worked.specs.Laws.WorkedList.{list, reports, ledger, first-a, worked}
+use Rattle.worked.specs.Laws.ListSteps.{totals, held, fresh, filled-b}
+use Rattle.worked.specs.Laws.WorkedList.{list, reports, ledger, limits, shares, first-a, worked}
 
 -- ---- the hypotheses
 
-bytes_only : List ℕ → Bool
+unfoldable pub bytes_only : List ℕ → Bool
 bytes_only [] = true
 bytes_only (x ∷ xs) = ltb x 256 && bytes_only xs
 
-bytes-only : (s : List ℕ) → bytes_only s ≡ true → AllBytes s
+pub bytes-only : (s : List ℕ) → bytes_only s ≡ true → AllBytes s
 unfolding bytes_only
 bytes-only [] e i = omega arith
 bytes-only (x ∷ xs) e zero = ltb-true x 256 (and_left (ltb x 256) (bytes_only xs) e)
@@ -152,21 +155,24 @@ stays = record { entry = entry-a still.entry (rw at_last.tree at still.lies); nu
 
 -- ---- the record that was handed on, after five accepted calls
 
-tells : (w : ℕ) → master_words ≤ w → Tells last w 5 (totals 1649 5883 5)
-unfolding accepted_count
-tells w h = rw (worked.image, worked.told, worked.handed-back) at (record-tells first master_words w fresh list bytes worked.made h (within w h) worked.handed-on)
+tells : (w : ℕ) → master_words ≤ w → Tells last w (λ k. taken_after_all k 0 list first) (λ k. accepted_count k list first) (totals 1649 5883 5)
+tells w h = rw (worked.image, worked.handed-back) at (record-tells first master_words w limits shares fresh.totals list bytes refl refl worked.made h (within w h) worked.handed-on)
 
 pub record Told (w : ℕ) : Type 0 where
   pub used : used_of last ≡ 1649
   pub largest : largest_size (free_space_of last) ≡ 5883
-  pub afresh : record_answer last w ≡ Ok (totals 1649 5883 0)
+  pub afresh : record_answer last w limits shares ≡ Ok (handed 1649 5883 0).totals
+  -- by team 0, and by none of the others: bytes, and accepted edits
+  pub taken : (taken_after_all 0 0 list first ≡ 19) × (taken_after_all 15 0 list first ≡ 0)
+  pub counts : (accepted_count 0 list first ≡ 5) × (accepted_count 15 list first ≡ 0)
 
 pub told : (w : ℕ) → master_words ≤ w → Told w
+unfolding new_teams
 told w h =
     let t = tells w h in
     let u : used_of last ≡ 1649 = sym (ap (λ (t : Totals). t.used) t.totals) in
     let l : largest_size (free_space_of last) ≡ 5883 = sym (ap (λ (t : Totals). t.largest) t.totals) in
-    record { used = u; largest = l; afresh = t.afresh ∙ rw (u, l) }
+    record { used = u; largest = l; afresh = t.afresh limits shares ∙ rw (u, l); taken = (sym (t.takes 0 (omega arith)), sym (t.takes 15 (omega arith))); counts = (sym (t.counts 0 (omega arith)), sym (t.counts 15 (omega arith))) }
 
 -- ---- the stated maximum, which the last table just meets
 
@@ -189,7 +195,7 @@ abbrev pub over : List ℕ
 over = stating 0x19
 
 abbrev over_call : Edit → Call
-over_call ed = record { edit = ed; totals = small.fresh; words = master_words; bytes = 0x28 }
+over_call ed = record { edit = ed; account = small.fresh; words = master_words; bytes = 0x28 }
 
 abbrev pub over_list : List Call
 over_list = over_call rewrite ∷ over_call (resize_file 1 0x100) ∷ []
@@ -226,10 +232,14 @@ down-table : length (encode (nodes_in (slack 0x1A))) ≡ 0x1A
 unfolding slack stating master put table_of nodes_in nodes_of nodes_from node_at name_at count be24 be32 encode entries_bytes texts_of parent_of parent_below
 down-table = refl
 
-pub down : fst_size (image_after rewrite (totals_of (slack 0x1A) 0) (slack 0x1A) master_words 0x1A) ≤ 0x1A
+unbounded : IsUnbounded (slack 0x1A) (own (slack 0x1A))
+unfolding remainders
+unbounded = record { used = refl; team = omega arith; taken = omega arith; limit = refl; count = omega arith; others = refl }
+
+pub down : fst_size (image_after rewrite (own (slack 0x1A)) (slack 0x1A) master_words 0x1A) ≤ 0x1A
 down =
     let m = slack-header.2 in
-    rw m at (edited-down (slack 0x1A) master_words 0x1A down-bytes slack-opens (rw (m, slack-header.1) (omega arith)) (rw (m, down-table) (omega arith)) (rw down-table (omega arith)) 0 (omega arith)).2
+    rw m at (edited-down (slack 0x1A) master_words 0x1A down-bytes slack-opens (rw (m, slack-header.1) (omega arith)) (rw (m, down-table) (omega arith)) (rw down-table (omega arith)) (own (slack 0x1A)) unbounded).2
 
 -- another maximum: the image opens all the same, to the same tree and free regions
 
@@ -246,7 +256,7 @@ any = any-maximum first restated master_words bytes at_first.opens (length-put f
 -- ---- the clip
 
 pub shows : ShowsClip (with_b 0x900 3 clip) master_words 2 clip
-shows = rw filled-b.written at (fill-reads (totals 1644 6140 2) (with_b 0x900 0 []) clip 2 master_words 0x36 master_words moved-bytes clip-bytes (omega arith) filled-b.answered)
+shows = rw filled-b.written at (fill-reads (held 1644 6140 2) (with_b 0x900 0 []) clip 2 master_words 0x36 master_words moved-bytes clip-bytes (omega arith) filled-b.answered)
 
 pub record Clip : Type 0 where
   -- the window of entry 2 has three bytes, of which a read of four gives three
@@ -260,5 +270,5 @@ unfolding put
 clip-read = record {
   window = shows.window;
   count = shows.count 4 (omega arith);
-  read = rw filled-b.written at (read_back (totals 1644 6140 2) (with_b 0x900 0 []) clip 2 master_words 0x36 master_words moved-bytes clip-bytes (omega arith) filled-b.answered (9 ∷ 9 ∷ 9 ∷ 9 ∷ []) (omega arith));
+  read = rw filled-b.written at (read_back (held 1644 6140 2) (with_b 0x900 0 []) clip 2 master_words 0x36 master_words moved-bytes clip-bytes (omega arith) filled-b.answered (9 ∷ 9 ∷ 9 ∷ 9 ∷ []) (omega arith));
 }

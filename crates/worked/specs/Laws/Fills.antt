@@ -22,7 +22,7 @@ use Rattle.executable.specs.Program.{program_of, program_in, own_region}
 use Rattle.opened.specs.Opening.{table_of, nodes_in, opening, free_space_of, used_of, used_in, regions_behind_table, layout_verdict}
 use Rattle.edit_rules.specs.Change.{image_with_table, written_image, table_verdict, place_verdict}
 use Rattle.edit_rules.specs.Edits.{fill_file, plan_resize, plan_fill, counted_verdict, verdict_of, image_after}
-use Rattle.worked.specs.Handed.{own}
+use Rattle.worked.specs.Laws.Handed.{own}
 use Rattle.worked.specs.Laws.Worked.{at, verdict_on, after, small, large, of_b, large-opens, large-nodes, large-free, large-used, large-header, grown}
 
 abbrev three : List ℕ

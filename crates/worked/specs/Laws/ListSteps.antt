@@ -17,7 +17,7 @@ use Rattle.totals.specs.Totals.{remainders, team_verdict, totals_verdict, moved_
 use Rattle.opened.specs.Opening.{disc_of}
 use Rattle.edit_rules.specs.Change.{Change, Plan, change, filled, image_with_table, written_image, table_verdict, place_verdict}
 use Rattle.edit_rules.specs.Edits.{Edit, Account, account, insert_file, move_file, resize_file, fill_file, rewrite, table_change, relocation_change, resize_change, insert_verdict, plan_move, plan_resize, plan_fill, plan_of, plan_verdict, plan_image, counted_verdict, verdict_of}
-use Rattle.worked.specs.Handed.{teams_after}
+use Rattle.worked.specs.Laws.Handed.{teams_after}
 use Rattle.worked.specs.Image.{master, master_words}
 use Rattle.worked.specs.Laws.Marked.{at}
 use Rattle.worked.specs.Laws.Maximum.{stating}

@@ -34,7 +34,7 @@ use Rattle.disc.specs.Calls.{totals_answer, free_answer, free_list, free_regions
 use Rattle.opened.specs.Answers.{max_region_size_answer}
 use Rattle.edit_rules.specs.Change.{image_with_table, written_image, table_verdict, place_verdict}
 use Rattle.edit_rules.specs.Edits.{Edit, Account, move_file, resize_file, plan_move, plan_resize, counted_verdict, verdict_of, image_after}
-use Rattle.worked.specs.Handed.{handed}
+use Rattle.worked.specs.Laws.Handed.{handed}
 use Rattle.worked.specs.Image.{master, master_words, master_bytes}
 
 -- ---- the image opens, and what it reads as

@@ -21,7 +21,7 @@ use Rattle.executable.specs.Program.{program_of, program_in, own_region}
 use Rattle.opened.specs.Opening.{table_of, nodes_in, opening, regions_behind_table, used_in, free_space_of, used_of, layout_verdict, disc_of}
 use Rattle.edit_rules.specs.Change.{Change, nothing, change, filled, image_with_table, written_image, table_verdict, place_verdict}
 use Rattle.edit_rules.specs.Edits.{Edit, insert_file, move_file, resize_file, fill_file, rewrite, table_change, insert_verdict, plan_of, plan_move, plan_resize, plan_fill, counted_verdict, verdict_of}
-use Rattle.worked.specs.Handed.{most, handed}
+use Rattle.worked.specs.Laws.Handed.{most, handed}
 use Rattle.worked.specs.Image.{master, master_words}
 use Rattle.worked.specs.Laws.Marked.{at, fresh}
 

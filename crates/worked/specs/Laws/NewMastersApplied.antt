@@ -11,7 +11,7 @@ use Rattle.header.specs.Verdicts.{disc_end, table_end}
 use Rattle.tree.specs.Units.{units}
 use Rattle.tree.specs.Table.{Node, file, name_of, empty_root, is_plain, is_safe, dirs_open_at, count, name_at, node_at, nodes_from, nodes_of, parent_below, parent_of, entries_bytes, texts_of, encode, is_shallow_from, is_shallow, limits}
 use Rattle.tree.specs.Lookup.{components_of, components, first_child, child_of, follow, lookup}
-use Rattle.opened.specs.Opening.{table_of, nodes_in, region_of, opening, used_of, regions_behind_table}
+use Rattle.opened.specs.Opening.{table_of, nodes_in, region_of, opening, used_in, used_of, free_space_of, regions_behind_table}
 use Rattle.edit_rules.specs.Edits.{fill_file, plan_resize, plan_fill, counted_verdict, verdict_of, image_after}
 use Rattle.tree.specs.Insert.{set_place}
 use Rattle.disc.specs.declared.answers.DiscTotals.{DiscTotals}
@@ -19,8 +19,9 @@ use Rattle.disc.specs.Calls.{totals_answer}
 use Rattle.ledger.specs.Theorem.{LedgerHolds}
 use Rattle.ledger.specs.Ledger.{History, Ledger, node_without_place, files_before, first_histories, first_ledger, ledger_after}
 use Rattle.ledger.specs.Runs.{Call, image_after_all, reports_of, AllWithin}
-use Rattle.space.specs.Used.{total_size}
-use Rattle.totals.specs.Totals.{totals_verdict}
+use Rattle.space.specs.Used.{is_used, nonempty_regions, total_size}
+use Rattle.space.specs.Free.{runs, free_regions}
+use Rattle.totals.specs.Totals.{remainders, team_verdict, totals_verdict}
 use Rattle.executable.specs.Program.{program_of, program_in, own_region, program_behind}
 use Rattle.header.specs.Fields.{fields}
 use Rattle.header.specs.Header.{header_of, put_fields, field_bytes, blank_header}
@@ -35,6 +36,7 @@ use Rattle.master.specs.Theorem.{IsGranted, FileSeen, files_in, files_wished, Is
 use Rattle.master.proofs.Laws.WishTree.{tree-is-wish-list, each-is-found}
 use Rattle.master.proofs.Laws.Opens.{new-master-opens}
 use Rattle.master.proofs.Laws.AllListsFollow.{any-list-follows, refused-exactly}
+use Rattle.worked.specs.Laws.Handed.{handed}
 use Rattle.worked.specs.Laws.NewMastersImage.{nested, nested_tree, small, lent, written, image, small-tree}
 
 -- ---- the hypotheses
@@ -261,7 +263,7 @@ abbrev pub clip : List ℕ
 clip = 0x11 ∷ 0x12 ∷ 0x13 ∷ []
 
 abbrev pub list : List Call
-list = record { edit = fill_file 4 clip; totals = record { used = 0x495; largest = 0x7B6E; edits = 0 }; words = 32; bytes = 0x52 } ∷ []
+list = record { edit = fill_file 4 clip; account = handed 0x495 0x7B6E 0; words = 32; bytes = 0x52 } ∷ []
 
 clip-bytes : AllBytes clip
 clip-bytes zero = omega arith
@@ -280,17 +282,21 @@ used : (used_of written ≡ 0x495) × (used_of filled ≡ 0x495)
 unfolding written paths_in wishes common below entries_from tree_from tree are_same_bytes texts_of encode entries_bytes parent_of parent_below align_up whole_total largest_rest offsets_in_order offsets_with_last last_file offsets_of nodes_of_master header_with written_master put put_fields fields field_bytes blank_header be32 be24 table_of nodes_in nodes_of nodes_from node_at name_at count used_of regions_behind_table program_of program_in own_region total_size
 used = (refl, refl)
 
+free : free_space_of filled ≡ record { offset = 0x492; size = 0x7B6E } ∷ []
+unfolding written paths_in wishes common below entries_from tree_from tree are_same_bytes texts_of encode entries_bytes parent_of parent_below align_up whole_total largest_rest offsets_in_order offsets_with_last last_file offsets_of nodes_of_master header_with written_master put put_fields fields field_bytes blank_header be32 be24 table_of nodes_in nodes_of nodes_from node_at name_at count used_in regions_behind_table program_of program_in own_region free_regions runs is_used nonempty_regions
+free = refl
+
 counted : ◌≡◌ {A = Result DiscTotals Refusal} (Ok (record { disc_end = disc_end filled; used = table_end filled + (program_behind filled).size + total_size (map region_of (nodes_in filled)) })) (Ok (record { disc_end = 0x8003; used = 0x495 }))
 unfolding written paths_in wishes common below entries_from tree_from tree are_same_bytes texts_of encode entries_bytes parent_of parent_below align_up whole_total largest_rest offsets_in_order offsets_with_last last_file offsets_of nodes_of_master header_with written_master put put_fields fields field_bytes blank_header be32 be24 table_of nodes_in nodes_of nodes_from node_at name_at count used_of regions_behind_table program_of program_in own_region total_size
 counted = refl
 
 accepted : reports_of list written ≡ record { edit = fill_file 4 clip; accepted = true } ∷ []
-unfolding reports_of verdict_of counted_verdict plan_fill plan_resize totals_verdict
-accepted = rw (opened.opens, nodes-written, nodes-written, used.0, used.1)
+unfolding reports_of verdict_of counted_verdict plan_fill plan_resize team_verdict totals_verdict remainders total_size
+accepted = rw (opened.opens, nodes-written, nodes-written, used.0, used.1, free)
 
 last : image_after_all list written ≡ filled
-unfolding image_after_all image_after verdict_of counted_verdict plan_fill plan_resize totals_verdict
-last = rw (opened.opens, nodes-written, nodes-written, used.0, used.1)
+unfolding image_after_all image_after verdict_of counted_verdict plan_fill plan_resize team_verdict totals_verdict remainders total_size
+last = rw (opened.opens, nodes-written, nodes-written, used.0, used.1, free)
 
 history : ℕ → List ℕ → Bool → History
 history place bytes named = record { place = place; bytes = bytes; m = length bytes; named = named }

@@ -1,6 +1,6 @@
 -- The small master with another size of `a`, and the edits of such images that the worked records and teams make, by computing: each passes its
 -- own tests, and what it does to used and free bytes. Assumes nothing.
-use Rattle.std.specs.Prelude.{Ok, Err}
+use Rattle.std.specs.Prelude.{Ok}
 use Rattle.refusal.specs.Refusal.{Verdict}
 use Rattle.std.specs.Prelude.{ℕ, ◌+◌, ◌≡◌, refl, List, [], ◌∷◌}
 use Rattle.endian.specs.Bytes.{be24, be32, be32_bytes, put}

@@ -25,7 +25,7 @@ use Rattle.executable.specs.Program.{program_of, program_in, own_region}
 use Rattle.opened.specs.Opening.{table_of, nodes_in, regions_behind_table, used_in, layout_verdict, opening, free_space_of, used_of}
 use Rattle.edit_rules.specs.Change.{image_with_table, written_image, table_verdict, place_verdict}
 use Rattle.edit_rules.specs.Edits.{table_change, insert_file, move_file, resize_file, rewrite, insert_verdict, plan_move, plan_resize, counted_verdict, verdict_of}
-use Rattle.worked.specs.Handed.{own}
+use Rattle.worked.specs.Laws.Handed.{own}
 
 -- a disc that ends at 0x900, in an image of so many bytes: the table at `fst`, file `a` of 0x100 bytes at `place`, with this name's byte
 abbrev disc : ℕ → ℕ → ℕ → ℕ → List ℕ

@@ -9,8 +9,8 @@ use Rattle.space.specs.MaxRegionSize.{size_beside_free, max_size_from}
 use Rattle.totals.specs.declared.Totals.{Totals}
 use Rattle.totals.specs.Totals.{new_teams, remainders, team_verdict, totals_verdict, moved_totals}
 use Rattle.disc.specs.Calls.{record_answer}
-use Rattle.edit_rules.specs.Edits.{Account, account, move_file, resize_file, rewrite, plan_move, counted_verdict, verdict_of}
-use Rattle.worked.specs.Handed.{most, teams_after, handed}
+use Rattle.edit_rules.specs.Edits.{Account, move_file, resize_file, rewrite, plan_move, counted_verdict, verdict_of}
+use Rattle.worked.specs.Laws.Handed.{most, teams_after, handed}
 use Rattle.worked.specs.Image.{master, master_words, master_bytes}
 use Rattle.worked.specs.Laws.Marked.{opens, nodes, free, used, fresh}
 use Rattle.worked.specs.Laws.Planned.{accepted-by, refused-by, refused}

@@ -1,7 +1,6 @@
 -- Worked teams, by computing, on the small master: 27 and 28 at each end of their range and on edits that cost nothing, what is taken after an
 -- accepted edit, and where 15, 27 and 28 come among the tests. Assumes nothing.
 use Rattle.std.specs.Prelude.{Ok, Err}
-use Rattle.refusal.specs.Refusal.{Verdict}
 use Rattle.std.specs.Prelude.{ℕ, ◌^◌, ◌≡◌, refl, List, [], ◌∷◌, ◌++◌, replicate}
 use Rattle.refusal.specs.declared.Refusal.TheVariants.{HeaderPastImage, LimitOrMemory, NoSuchEntry, OverlappingMove, NotEnoughSpace, TotalsOutOfRange, TableAboveMaximum, TakenAboveLimit, FreeBelowShares}
 use Rattle.refusal.specs.Refusal.{number_of}
@@ -19,14 +18,14 @@ use Rattle.disc.specs.Calls.{record_answer}
 use Rattle.edit_rules.specs.Change.{table_verdict, place_verdict}
 use Rattle.edit_rules.specs.Edits.{Account, account, make_directories, move_file, resize_file, rewrite, plan_make_directories, plan_move, counted_verdict, verdict_of}
 use Rattle.edit_rules.proofs.Laws.Accepted.{team-first}
-use Rattle.worked.specs.Handed.{most, team, teams}
+use Rattle.worked.specs.Laws.Handed.{most, team, teams}
 use Rattle.worked.specs.Image.{master, master_words, master_bytes}
 use Rattle.worked.specs.Laws.Marked.{opens, nodes, free, used}
-use Rattle.worked.specs.Laws.Maximum.{stating, tight, insert_b, tight-opens, tight-plan, tight-free, tight-header}
-use Rattle.worked.specs.Laws.Planned.{accepted-by, refused-by, refused}
+use Rattle.worked.specs.Laws.Maximum.{tight, insert_b, tight-opens, tight-plan, tight-free, tight-header}
+use Rattle.worked.specs.Laws.Planned.{accepted-by, refused-by}
 use Rattle.worked.specs.Laws.OnMaster.{answer, image, after, sized, costless, resizes}
 
--- a record of the small master, or of one that it was
+-- a record with so many used bytes, so large a free region, and these teams first
 abbrev record_of : ℕ → ℕ → List Team → Totals
 record_of used largest first = record { used = used; largest = largest; teams = teams first }
 
@@ -44,7 +43,7 @@ unbounded = team most 0 0 0
 abbrev above : Account
 above = by 0 (team 5 0 9 0 ∷ [])
 
--- of two teams, one may take 500 bytes
+-- of two teams the one that edits may take 500 bytes
 abbrev two : Account
 two = by 0 (team 500 100 0 0 ∷ team most 6000 0 0 ∷ [])
 
@@ -58,11 +57,11 @@ pub record Limits : Type 0 where
   pub made : record_answer master master_words (500 ∷ most ∷ replicate 14 0) (100 ∷ 6000 ∷ replicate 14 0) ≡ Ok two.totals
   pub over : answer (resize_file 1 757) two ≡ Err TakenAboveLimit
   pub exact : (answer (resize_file 1 756) two ≡ Ok tt) × (after (resize_file 1 756) two ≡ record_of 1870 6156 (team 500 100 500 1 ∷ team most 6000 0 0 ∷ []))
-  -- neither sum wraps: a byte more than 2^32 - 1
+  -- the sum does not wrap: a byte more than 2^32 - 1
   pub most-taken : answer (resize_file 1 257) (by 0 (team most 0 most 0 ∷ [])) ≡ Err TakenAboveLimit
   -- bytes given back: one of 9 is too few for a limit of 5, four are enough
   pub given-back : (answer (resize_file 1 255) above ≡ Err TakenAboveLimit) × (answer (resize_file 1 252) above ≡ Ok tt) × (after (resize_file 1 252) above ≡ record_of 1366 6660 (team 5 0 5 1 ∷ []))
-  -- more of them than it has taken: none are taken then; and fewer
+  -- more bytes than it has taken: none are taken then; and fewer
   pub below-0 : after (resize_file 1 0) (by 0 (team most 0 100 0 ∷ [])) ≡ record_of 1114 7078 (team most 0 0 1 ∷ [])
   pub fewer : after (resize_file 1 0) (by 0 (team most 0 300 0 ∷ [])) ≡ record_of 1114 7078 (team most 0 44 1 ∷ [])
   -- the cost is the image's, whatever the record holds: 500 bytes where it says that 1869 are used
@@ -218,7 +217,7 @@ in-table : (verdict_of insert_b (due 5 6823) (tight 0x1A) master_words 0x28 ≡ 
 unfolding verdict_of counted_verdict team_verdict max_size_from size_beside_free table_verdict place_verdict limits is_shallow is_shallow_from dirs_open_at texts_of encode entries_bytes parent_of parent_below
 in-table = (rw (tight-opens 0x1A, tight-plan 0x1A, tight-header.3), rw (tight-opens 0, tight-plan 0, tight-free, tight-header.2, tight-header.0, tight-header.1))
 
-sixteenth : team_verdict 16 ≡ Err NoSuchEntry
+pub sixteenth : team_verdict 16 ≡ Err NoSuchEntry
 unfolding team_verdict
 sixteenth = refl
 

@@ -25,7 +25,7 @@ use Rattle.executable.specs.Program.{program_of, program_in, own_region}
 use Rattle.opened.specs.Opening.{table_of, nodes_in, opening, free_space_of, used_of, used_in, regions_behind_table, layout_verdict}
 use Rattle.edit_rules.specs.Change.{image_with_table, written_image, table_verdict, place_verdict}
 use Rattle.edit_rules.specs.Edits.{Edit, insert_file, insert_directory, move_file, resize_file, rewrite, insert_verdict, plan_move, plan_resize, counted_verdict, verdict_of, image_after}
-use Rattle.worked.specs.Handed.{own}
+use Rattle.worked.specs.Laws.Handed.{own}
 
 -- ---- an image that ends at e: file `a` of 8 bytes at 0x500, `b` of 4 bytes right behind it; the table's last text, `zz`, is no entry's
 

@@ -9,7 +9,7 @@ use Rattle.disc.specs.Calls.{record_answer}
 use Rattle.edit_rules.specs.Edits.{Edit, Account, insert_file, move_file, resize_file, fill_file, rewrite}
 use Rattle.ledger.specs.Ledger.{files_before, put_in, first_histories, Ledger, first_ledger, Report, ledger_after}
 use Rattle.ledger.specs.Runs.{Call, image_after_all, reports_of, totals_after_all, IsHandedOn}
-use Rattle.worked.specs.Handed.{most}
+use Rattle.worked.specs.Laws.Handed.{most}
 use Rattle.worked.specs.Image.{master, master_words}
 use Rattle.worked.specs.Laws.Maximum.{stating}
 use Rattle.worked.specs.Laws.ListImages.{of_a, first, clip, last, space, total, at_first}

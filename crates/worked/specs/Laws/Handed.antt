@@ -1,7 +1,6 @@
 -- The records that the worked edits are handed. Assumes nothing: these are definitions.
 use Rattle.std.specs.Prelude.{ℕ, ◌-◌, ◌^◌, List, [], ◌∷◌, ◌++◌, length, replicate}
 use Rattle.totals.specs.declared.team.Team.{Team}
-use Rattle.totals.specs.declared.Totals.{Totals}
 use Rattle.totals.specs.Totals.{new_team}
 use Rattle.disc.specs.Calls.{totals_of}
 use Rattle.edit_rules.specs.Edits.{Account, account}
