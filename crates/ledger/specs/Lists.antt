@@ -10,7 +10,7 @@ use Rattle.disc.specs.Calls.{record_answer}
 use Rattle.edit_rules.specs.Edits.{Edit, account, plan_of, plan_number, number_behind, verdict_of, image_after, totals_after}
 use Rattle.edit_rules.specs.Promise.{Loan}
 use Rattle.ledger.specs.Ledger.{first_ledger, Report, ledger_after}
-use Rattle.ledger.specs.Runs.{Call, image_after_all, reports_of, totals_after_all, accepted_count, taken_after_all}
+use Rattle.ledger.specs.Runs.{Call, image_after_all, reports_of, totals_after_all, team_after_all}
 use Rattle.ledger.specs.Theorem.{LedgerHolds, Tells, IsFairStart, SharesHold, SharesSuffice}
 
 -- an edit, and the team whose turn it is
@@ -61,7 +61,7 @@ abbrev pub TellsAfter : ℕ → List Turn → Loan → Loan → Type 0
 TellsAfter room turns before after =
     (limits shares : List ℕ) → length limits ≡ 16 → length shares ≡ 16 →
     record_answer before.image (length before.words) limits shares ≡ Ok before.totals →
-    Tells after.image (length before.words) (λ k. taken_after_all k 0 (calls_with room turns before) before.image) (λ k. accepted_count k (calls_with room turns before) before.image) after.totals
+    Tells after.image (length before.words) (team_after_all limits shares (calls_with room turns before) before.image) after.totals
 
 -- an image that opens with the lent words, nothing taken and all shares free: the shares hold, and suffice at each turn
 abbrev pub SharesHoldAfter : ℕ → List Turn → Loan → Loan → Type 0

@@ -1,6 +1,7 @@
 -- A list of calls on an image: the image after it, what the ledger is told of it, and the record that is handed on through it. Assumes nothing: these are definitions.
-use Rattle.std.specs.Prelude.{ℕ, ◌+◌, ◌-◌, ◌^◌, ◌<◌, ◌≤◌, ◌≡◌, ◌==◌, ◌&&◌, not, List, [], ◌∷◌, if◌then◌else◌, is_err, is_ok}
+use Rattle.std.specs.Prelude.{ℕ, ◌+◌, ◌-◌, ◌^◌, ◌<◌, ◌≤◌, ◌≡◌, ◌==◌, ◌&&◌, not, List, [], ◌∷◌, if◌then◌else◌, is_err, is_ok, slice_index}
 use Rattle.endian.specs.Bytes.{AllBytes}
+use Rattle.totals.specs.declared.team.Team.{Team}
 use Rattle.totals.specs.declared.Totals.{Totals}
 use Rattle.opened.specs.Opening.{used_of}
 use Rattle.edit_rules.specs.Edits.{Edit, Account, insert_file, insert_directory, make_directories, move_file, resize_file, fill_file, rewrite, verdict_of, image_after, totals_after}
@@ -55,6 +56,15 @@ taken_after_all k n [] image = n
 taken_after_all k n (c ∷ calls) image =
     let new : List ℕ = image_after c.edit c.account image c.words c.bytes in
     taken_after_all k (if c.account.team == k then n + used_of new - used_of image else n) calls new
+
+-- team k after the calls, where it had taken nothing, with the k-th limit and the k-th share
+abbrev pub team_after_all : List ℕ → List ℕ → List Call → List ℕ → ℕ → Team
+team_after_all limits shares calls image k = record {
+  limit = slice_index limits k;
+  share = slice_index shares k;
+  taken = taken_after_all k 0 calls image;
+  edits = accepted_count k calls image;
+}
 
 -- ---- what a call may be
 

@@ -12,6 +12,7 @@ use Rattle.space.specs.Used.{end_of, is_inside, total_size, no_region}
 use Rattle.space.specs.Listing.{region_row, listing_of, list_after}
 use Rattle.executable.specs.Program.{program_of, program_in, program_behind}
 use Rattle.refusal.specs.declared.Refusal.TheVariants.{FreeBelowShares}
+use Rattle.totals.specs.declared.team.Team.{Team}
 use Rattle.totals.specs.declared.Totals.{Totals}
 use Rattle.totals.specs.Totals.{team_of, new_teams}
 use Rattle.opened.specs.Opening.{table_of, nodes_in, region_of, used_in, used_of, free_space_of, opening, disc_of}
@@ -20,7 +21,7 @@ use Rattle.window.specs.Window.{new_window, count_of, buffer_of}
 use Rattle.disc.specs.Files.{open_file_answer}
 use Rattle.edit_rules.specs.Edits.{Account, fill_file, plan_of, plan_image, verdict_of, image_after}
 use Rattle.ledger.specs.Ledger.{Ledger, node_without_place, files_before, history_of, first_ledger, ledger_after}
-use Rattle.ledger.specs.Runs.{Call, image_after_all, reports_of, totals_after_all, IsHandedOn, accepted_count, taken_after_all, AllWithin}
+use Rattle.ledger.specs.Runs.{Call, image_after_all, reports_of, totals_after_all, IsHandedOn, team_after_all, AllWithin}
 use Rattle.ledger.specs.Spared.{number_after, IsSpared}
 
 -- of the file with entry number k, which lies at `offset` and has `size` bytes, by its history in the ledger
@@ -101,19 +102,18 @@ FillReads =
 
 -- ---- a record that is handed on tells what one made afresh would, and what each team has taken, in how many edits
 
--- the record t, of an image: what a record made of the image with w words says, and what each team has taken, in how many accepted edits
-pub record Tells (image : List ℕ) (w : ℕ) (taken count : ℕ → ℕ) (t : Totals) : Type 0 where
+-- the record t, of an image: what a record made of the image with w words says, and each of 16 teams
+pub record Tells (image : List ℕ) (w : ℕ) (team : ℕ → Team) (t : Totals) : Type 0 where
   pub totals : t ≡ totals_of image t.teams
   pub afresh : (limits shares : List ℕ) → record_answer image w limits shares ≡ Ok (totals_of image (new_teams limits shares))
-  pub takes : (k : ℕ) → k < 16 → (team_of t k).taken ≡ taken k
-  pub counts : (k : ℕ) → k < 16 → (team_of t k).edits ≡ count k
+  pub teams : (k : ℕ) → k < 16 → team_of t k ≡ team k
 
 -- THEOREM: a record that was made of the first image for 16 teams, and any list of calls through which it is handed on
 abbrev pub RecordTells : Type 0
 RecordTells =
     (image : List ℕ) (w₀ w : ℕ) (limits shares : List ℕ) (t : Totals) (calls : List Call) → AllBytes image → length limits ≡ 16 → length shares ≡ 16 → record_answer image w₀ limits shares ≡ Ok t → w₀ ≤ w →
     AllWithin w calls → IsHandedOn t calls image →
-    Tells (image_after_all calls image) w (λ k. taken_after_all k 0 calls image) (λ k. accepted_count k calls image) (totals_after_all t calls image)
+    Tells (image_after_all calls image) w (team_after_all limits shares calls image) (totals_after_all t calls image)
 
 -- ---- teams that edit by turns: each has its share, and none passes its limit
 

@@ -1,5 +1,4 @@
--- The causes of the record's tests are theirs alone: what opening, the team's test or an edit's own tests refuse has a number of at most 26.
--- Assumes nothing.
+-- The causes of the record's tests are theirs alone: what an edit's own tests refuse has a number of at most 26. Assumes nothing.
 use Rattle.std.specs.Prelude.{Result, Ok, Err, ℕ, ◌+◌, ◌*◌, ◌-◌, ◌^◌, ◌≤◌, ◌==◌, ◌&&◌, ◌||◌, nat_lt, nat_le, Bool, true, false, not, cond, is_ok, List, [], ◌∷◌, length, slice_index_or}
 use mathlib.Core.List.{tail}
 use Rattle.std.proofs.Common.{arith}

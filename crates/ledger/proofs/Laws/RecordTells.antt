@@ -1,18 +1,19 @@
--- A record that was made of the first image and handed on through any list of calls says what one made afresh of the last image says, and what
--- each team has taken, in how many accepted edits. Assumes nothing.
+-- A record that was made of the first image and handed on through any list of calls says what one made afresh of the last image says, and each
+-- team's limit, share, what it has taken, and in how many accepted edits. Assumes nothing.
 use Rattle.std.specs.Prelude.{Ok, Err, is_err, is_ok}
 use Rattle.refusal.specs.Refusal.{Verdict}
-use Rattle.std.specs.Prelude.{ℕ, ◌+◌, ◌-◌, ◌<◌, ◌≡◌, ◌&&◌, Bool, true, false, cond, ◌==◌, List, [], ◌∷◌, length}
+use Rattle.std.specs.Prelude.{ℕ, ◌+◌, ◌-◌, ◌<◌, ◌≡◌, ◌&&◌, Bool, true, false, cond, ◌==◌, List, [], ◌∷◌, length, slice_index}
 use Rattle.std.proofs.Math.Path.{refl}
 use Rattle.std.proofs.Common.{sym, ap, ◌∙◌, arith, eqb-true}
 use Rattle.std.proofs.lemmas.Bool.{eqb-false}
 use Rattle.refusal.specs.Laws.Tests.{and-false}
 use Rattle.space.specs.Laws.HoldsLaws.{and-true}
+use Rattle.totals.specs.declared.team.Team.{Team}
 use Rattle.totals.specs.declared.Totals.{Totals}
 use Rattle.totals.specs.declared.SpaceChange.{SpaceChange}
-use Rattle.totals.specs.Totals.{new_teams, team_of, moved_totals}
-use Rattle.totals.proofs.Laws.Moved.{moved-length, one-edit-more, same-edits, taken-charged, same-taken}
-use Rattle.totals.proofs.Laws.NewTeams.{new-length, new-taken, new-edits}
+use Rattle.totals.specs.Totals.{new_team, new_teams, team_of, moved_totals}
+use Rattle.totals.proofs.Laws.Moved.{moved-length, same-limit, same-share, one-edit-more, same-edits, taken-charged, same-taken}
+use Rattle.totals.proofs.Laws.NewTeams.{new-length, new-team, new-edits}
 use Rattle.opened.specs.Opening.{opening, used_of, disc_of}
 use Rattle.disc.specs.Calls.{totals_of, record_answer}
 use Rattle.edit_rules.specs.Edits.{Account, plan_of, plan_image, space_change, totals_to, verdict_of, image_after, totals_after}
@@ -129,6 +130,29 @@ takes-along (c ∷ calls) image t k h on =
     takes-along calls next (totals_after c.edit c.account image c.words c.bytes) k (omega (arith, long, h, ap (λ (t : Totals). length t.teams) on.0)) on.1
     ∙ rw (call-takes c image k (rw on.0 h), on.0) refl
 
+-- ---- limits and shares
+
+given-along : (calls : List Call) (image : List ℕ) (t : Totals) (k : ℕ) → IsHandedOn t calls image →
+    ((team_of (totals_after_all t calls image) k).limit ≡ (team_of t k).limit) × ((team_of (totals_after_all t calls image) k).share ≡ (team_of t k).share)
+unfolding totals_after_all totals_after
+given-along [] image t k on = (refl, refl)
+given-along (c ∷ calls) image t k on =
+    let more = given-along calls (image_after c.edit c.account image c.words c.bytes) (totals_after c.edit c.account image c.words c.bytes) k on.1 in
+    let here = call (verdict_of c.edit c.account image c.words c.bytes) in
+    (more.0 ∙ here.0 ∙ ap (λ (t : Totals). (team_of t k).limit) on.0, more.1 ∙ here.1 ∙ ap (λ (t : Totals). (team_of t k).share) on.0)
+  where
+    new : Totals
+    new = totals_to c.account image (plan_image (plan_of c.edit (disc_of image)) image)
+
+    call : (v : Verdict) → ((team_of (cond (is_err v) c.account.totals new) k).limit ≡ (team_of c.account.totals k).limit) × ((team_of (cond (is_err v) c.account.totals new) k).share ≡ (team_of c.account.totals k).share)
+    call (Ok _) =
+        let x = space_change image (plan_image (plan_of c.edit (disc_of image)) image) in
+        (same-limit c.account.totals c.account.team x k, same-share c.account.totals c.account.team x k)
+    call (Err r) = (refl, refl)
+
+as-told : (m : Team) (limit share taken edits : ℕ) → m.limit ≡ limit → m.share ≡ share → m.taken ≡ taken → m.edits ≡ edits → m ≡ record { limit = limit; share = share; taken = taken; edits = edits }
+as-told m limit share taken edits l s t e = rw (← l, ← s, ← t, ← e) refl
+
 -- THEOREM
 pub record-tells : RecordTells
 unfolding record_answer
@@ -139,18 +163,20 @@ record-tells image w₀ w limits shares t calls b l s e h a on =
     record {
       totals = tells-along calls image t (rw m.1) on;
       afresh = λ limits shares. rw k.opens;
-      takes = λ j d.
-          let none : (team_of t j).taken ≡ 0 = ap (λ (t : Totals). (team_of t j).taken) m.1 ∙ new-taken limits shares j in
-          takes-along calls image t j (omega (arith, sixteen, d)) on ∙ rw none refl;
-      counts = λ j d.
-          let none : (team_of t j).edits ≡ 0 = ap (λ (t : Totals). (team_of t j).edits) m.1 ∙ new-edits limits shares j in
-          omega (arith, none, counts-along calls image t j (omega (arith, sixteen, d)) on);
+      teams = λ j d.
+      let made : team_of t j ≡ new_team (slice_index limits j) (slice_index shares j) = ap (λ (t : Totals). team_of t j) m.1 ∙ new-team limits shares j (omega (arith, l, d)) (omega (arith, s, d)) in
+      let n : j < length t.teams = omega (arith, sixteen, d) in
+      let given = given-along calls image t j on in
+      let none : (team_of t j).taken ≡ 0 = ap (λ (m : Team). m.taken) made in
+      as-told _ _ _ _ _ (given.0 ∙ ap (λ (m : Team). m.limit) made) (given.1 ∙ ap (λ (m : Team). m.share) made)
+      (takes-along calls image t j n on ∙ rw none refl)
+      (counts-along calls image t j n on ∙ rw (ap (λ (m : Team). m.edits) made) (omega arith));
     }
 
 -- THEOREM: a record made anew of the last image has the used bytes and the largest region of the one that was handed on, and no count
-pub made-anew : (image : List ℕ) (w : ℕ) (taken count : ℕ → ℕ) (limits shares : List ℕ) (t new : Totals) → Tells image w taken count t → record_answer image w limits shares ≡ Ok new →
+pub made-anew : (image : List ℕ) (w : ℕ) (team : ℕ → Team) (limits shares : List ℕ) (t new : Totals) → Tells image w team t → record_answer image w limits shares ≡ Ok new →
     (new.used ≡ t.used) × (new.largest ≡ t.largest) × ((k : ℕ) → (team_of new k).edits ≡ 0)
-made-anew image w taken count limits shares t new tells e =
+made-anew image w team limits shares t new tells e =
     let q : totals_of image (new_teams limits shares) ≡ new = cc (tells.afresh limits shares) in
     let n = new-edits limits shares in
     rw (← q, ap (λ (t : Totals). t.used) tells.totals, ap (λ (t : Totals). t.largest) tells.totals) (refl, refl, n)

@@ -15,6 +15,7 @@ use Rattle.space.specs.Used.{is_inside, nonempty_regions, total_size, no_region}
 use Rattle.space.specs.Free.{largest_size}
 use Rattle.space.specs.Listing.{rows_of}
 use Rattle.window.specs.Window.{new_window, count_of}
+use Rattle.totals.specs.declared.team.Team.{Team}
 use Rattle.totals.specs.declared.Totals.{Totals}
 use Rattle.totals.specs.Totals.{new_teams, remainders}
 use Rattle.executable.specs.Program.{program_in, own_region}
@@ -24,7 +25,7 @@ use Rattle.disc.specs.Files.{open_file_answer}
 use Rattle.edit_rules.specs.Change.{nothing}
 use Rattle.edit_rules.specs.Edits.{Edit, rewrite, resize_file, plan_resize, plan_of, image_after}
 use Rattle.ledger.specs.Ledger.{History, Ledger, node_without_place, files_before, history_of, put_in, first_ledger}
-use Rattle.ledger.specs.Runs.{Call, image_after_all, accepted_count, taken_after_all, AllWithin}
+use Rattle.ledger.specs.Runs.{Call, image_after_all, accepted_count, taken_after_all, team_after_all, AllWithin}
 use Rattle.ledger.specs.Spared.{number_after, IsSpared}
 use Rattle.ledger.specs.Theorem.{LedgerHolds, StillThere, ShowsClip, Tells, WithinMaximum}
 use Rattle.ledger.proofs.Laws.AnyMaximum.{any-maximum}
@@ -155,7 +156,7 @@ stays = record { entry = entry-a still.entry (rw at_last.tree at still.lies); nu
 
 -- ---- the record that was handed on, after five accepted calls
 
-tells : (w : ℕ) → master_words ≤ w → Tells last w (λ k. taken_after_all k 0 list first) (λ k. accepted_count k list first) (totals 1649 5883 5)
+tells : (w : ℕ) → master_words ≤ w → Tells last w (team_after_all limits shares list first) (totals 1649 5883 5)
 tells w h = rw (worked.image, worked.handed-back) at (record-tells first master_words w limits shares fresh.totals list bytes refl refl worked.made h (within w h) worked.handed-on)
 
 pub record Told (w : ℕ) : Type 0 where
@@ -172,7 +173,7 @@ told w h =
     let t = tells w h in
     let u : used_of last ≡ 1649 = sym (ap (λ (t : Totals). t.used) t.totals) in
     let l : largest_size (free_space_of last) ≡ 5883 = sym (ap (λ (t : Totals). t.largest) t.totals) in
-    record { used = u; largest = l; afresh = t.afresh limits shares ∙ rw (u, l); taken = (sym (t.takes 0 (omega arith)), sym (t.takes 15 (omega arith))); counts = (sym (t.counts 0 (omega arith)), sym (t.counts 15 (omega arith))) }
+    record { used = u; largest = l; afresh = t.afresh limits shares ∙ rw (u, l); taken = (sym (ap (λ (m : Team). m.taken) (t.teams 0 (omega arith))), sym (ap (λ (m : Team). m.taken) (t.teams 15 (omega arith)))); counts = (sym (ap (λ (m : Team). m.edits) (t.teams 0 (omega arith))), sym (ap (λ (m : Team). m.edits) (t.teams 15 (omega arith)))) }
 
 -- ---- the stated maximum, which the last table just meets
 

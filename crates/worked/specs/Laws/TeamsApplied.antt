@@ -8,6 +8,7 @@ use Rattle.refusal.specs.declared.Refusal.TheVariants.{NoSuchEntry, TakenAboveLi
 use Rattle.space.specs.Used.{total_size}
 use Rattle.space.specs.Free.{largest_size}
 use Rattle.space.specs.MaxRegionSize.{size_beside_free, max_size_from}
+use Rattle.totals.specs.declared.team.Team.{Team}
 use Rattle.totals.specs.declared.Totals.{Totals}
 use Rattle.totals.specs.Totals.{team_of, new_teams, remainders, team_verdict, totals_verdict, moved_totals}
 use Rattle.totals.proofs.Laws.NewTeams.{new-taken}
@@ -16,7 +17,7 @@ use Rattle.disc.specs.Calls.{record_answer}
 use Rattle.edit_rules.specs.Edits.{Edit, account, resize_file, rewrite, plan_resize, verdict_of}
 use Rattle.edit_rules.proofs.Laws.Accepted.{team-first}
 use Rattle.ledger.specs.Lists.{Turn, calls_of, answers_of}
-use Rattle.ledger.specs.Runs.{Call, image_after_all, totals_after_all, IsHandedOn, accepted_count, taken_after_all, AllWithin}
+use Rattle.ledger.specs.Runs.{Call, image_after_all, totals_after_all, IsHandedOn, accepted_count, taken_after_all, team_after_all, AllWithin}
 use Rattle.ledger.specs.Theorem.{Tells, IsFairStart, IsWithinShare, SharesHold, SharesSuffice}
 use Rattle.ledger.proofs.Laws.RecordTells.{record-tells}
 use Rattle.ledger.proofs.Laws.TeamsServed.{teams-served}
@@ -200,7 +201,7 @@ start = record { taken = (fair.nothing-taken 2, fair.nothing-taken 16); shares =
 
 -- ---- what the record tells after the list
 
-tells : (w : ℕ) → master_words ≤ w → Tells (sized 6912) w (λ k. taken_after_all k 0 list master) (λ k. accepted_count k list master) t₄
+tells : (w : ℕ) → master_words ≤ w → Tells (sized 6912) w (team_after_all limits shares list master) t₄
 tells w h = rw (worked.image, worked.handed-back) at (record-tells master master_words w limits shares t₀ list bytes refl refl worked.made h (within w h) worked.handed-on)
 
 pub record Told (w : ℕ) : Type 0 where
@@ -223,8 +224,8 @@ told w h =
       used = u;
       largest = l;
       afresh = t.afresh (replicate 16 5) (replicate 16 7) ∙ rw (u, l);
-      taken = (sym (t.takes 0 (omega arith)), sym (t.takes 1 (omega arith)), sym (t.takes 2 (omega arith)), sym (t.takes 3 (omega arith)));
-      counts = (sym (t.counts 0 (omega arith)), sym (t.counts 1 (omega arith)), sym (t.counts 2 (omega arith)), sym (t.counts 3 (omega arith)));
+      taken = (sym (ap (λ (m : Team). m.taken) (t.teams 0 (omega arith))), sym (ap (λ (m : Team). m.taken) (t.teams 1 (omega arith))), sym (ap (λ (m : Team). m.taken) (t.teams 2 (omega arith))), sym (ap (λ (m : Team). m.taken) (t.teams 3 (omega arith))));
+      counts = (sym (ap (λ (m : Team). m.edits) (t.teams 0 (omega arith))), sym (ap (λ (m : Team). m.edits) (t.teams 1 (omega arith))), sym (ap (λ (m : Team). m.edits) (t.teams 2 (omega arith))), sym (ap (λ (m : Team). m.edits) (t.teams 3 (omega arith))));
     }
 
 -- ---- the teams have their shares
