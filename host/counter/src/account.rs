@@ -35,12 +35,22 @@ const BEGIN: &[u8] = b"counter record ";
 
 /// The first line of one without teams, and of one with teams.
 const FIRST: &str = "counter record 1\n";
-pub const SECOND: &str = "counter record 2\n";
+const SECOND: &str = "counter record 2\n";
+
+/// What an editor may put before a text.
+const MARK: &[u8] = b"\xEF\xBB\xBF";
 
 /// Whether it begins as one does. No image does that opens, which has its magic where a record has letters.
 pub fn begins(bytes: &[u8]) -> bool {
     const MAGIC: [u8; 4] = [0xC2, 0x33, 0x9F, 0x3D];
-    bytes.starts_with(BEGIN) && bytes.get(0x1C..0x20).is_none_or(|word| word != MAGIC)
+    let text = bytes.strip_prefix(MARK).unwrap_or(bytes);
+    text.starts_with(BEGIN) && bytes.get(0x1C..0x20).is_none_or(|word| word != MAGIC)
+}
+
+/// Whether it begins as one with teams does.
+pub fn has_teams(bytes: &[u8]) -> bool {
+    let text = bytes.strip_prefix(MARK).unwrap_or(bytes);
+    text.starts_with(SECOND.trim_end().as_bytes())
 }
 
 impl Account {
@@ -66,7 +76,13 @@ impl Account {
 
     /// One exactly as it is written, or what is wrong.
     pub fn parse(bytes: &[u8]) -> Result<Account, String> {
+        if bytes.starts_with(MARK) {
+            return Err("it begins with a byte order mark; none is wanted".into());
+        }
         let text = std::str::from_utf8(bytes).map_err(|_| "it is no UTF-8")?;
+        if text.contains('\r') {
+            return Err("its lines end with CR LF; LF alone is wanted".into());
+        }
         let account = match (text.strip_prefix(FIRST), text.strip_prefix(SECOND)) {
             (Some(rest), _) => without_teams(rest),
             (_, Some(rest)) => with_teams(rest),
@@ -110,9 +126,12 @@ fn with_teams(text: &str) -> Result<Account, String> {
         teams[team as usize] = Team { limit, share, taken, edits };
     }
     let there = names.numbers().count();
-    match there > 0 && there == count as usize {
-        true => Ok(Account { record: Record { used, largest, teams }, names }),
-        false => Err(format!("it has {there} teams, and line 2 says {count}")),
+    match there {
+        0 => Err("it has the form of one with teams, and no team".into()),
+        _ if there == count as usize => {
+            Ok(Account { record: Record { used, largest, teams }, names })
+        }
+        _ => Err(format!("it has {}, and line 2 says {count}", counted(there, "team", "teams"))),
     }
 }
 
@@ -338,13 +357,19 @@ impl Turn {
         let Team { limit, taken, .. } = *self.team();
         let cost = spent.cost();
         let above = (i64::from(taken) + cost - i64::from(limit)).max(0) as u64;
+        let of = match limit {
+            OPEN => format!("{}, the most that any team can take", grouped(limit.into())),
+            _ => format!(
+                "its limit of {}; if it may take more, raise the limit in the record's FILE",
+                grouped(limit.into())
+            ),
+        };
         let words = format!(
-            "{} has taken {} and {}: {} above its limit of {}",
+            "{} has taken {} and {}: {} above {of}",
             self.account.names.called(self.team),
             bytes(taken.into()),
             costs(cost),
-            grouped(above),
-            grouped(limit.into())
+            grouped(above)
         );
         let team = self.whose();
         refusal.because(words).measured(Measures::Limit { team, taken, cost, limit, above })
@@ -381,9 +406,12 @@ impl Turn {
             (u32::MAX, false) => format!("the count of {} is at its end", names.called(self.team)),
             _ => "the record's used bytes are not the image's".into(),
         };
-        let teams = if names.is_empty() { "" } else { " --teams LIST" };
+        let (teams, anew) = match names.is_empty() {
+            true => ("", ""),
+            false => (" --teams LIST", ", in which no team has taken anything"),
+        };
         refusal.because(format!(
-            "{what}; `counter record IMAGE --record FILE{teams} --force` makes a new one"
+            "{what}; `counter record IMAGE --record FILE{teams} --force` makes a new one{anew}"
         ))
     }
 }

@@ -544,7 +544,7 @@ is none), and how many edits were accepted since the record was made, those too 
 where it has teams, also what is so of the team. Without --record one is made for the one edit, so that edits is 1.
 With --record an edit takes the record in FILE and leaves there what comes back; where there is no FILE, \
 a new record without teams is made of the image first. A refused edit and a dry run leave FILE as it was. FILE is \
-a text of two lines, and of one more for each team. A link to it is followed, and its mode is kept. It may not be the image, a clip, a \
+a text of two lines, and of one more for each team. A symbolic link to it is followed, and its mode is kept. It may not be the image, a clip, a \
 journal, a folder or a special file (64). While an edit uses it, another one that wants it is told to wait \
 (75), or waits with --wait.
 What comes back is in the edit's journal, and in FILE before the journal goes. So an edit that was cut is \
@@ -559,7 +559,8 @@ without FILE that left both numbers as they were is not noticed, and not counted
 4,294,967,295th, of its team where there are teams, is refused (25).
 Up to 16 teams edit an image by turns. With --teams the new record has those of LIST, a text file in UTF-8 with a line \
 for each: its number (0 to 15), limit, share and name, parted by spaces. Limit and share are bytes, written as SIZE; \
-a limit of `none` or - is none. A name has at most 100 bytes, is no number, may have spaces in it or be left out. \
+a limit of `none` or - is none. A name has at most 100 bytes, is no number, holds no # and no control characters, may \
+have spaces in it or be left out. \
 Empty lines, and those that begin with #, say nothing. A LIST that is wrong is an error (65), which names the line. No \
 limit or share is refused; shares that are together more than the free bytes, or above their limits, are told. Without \
 --record the record is only shown.
@@ -567,7 +568,9 @@ With such a record every edit wants --team, the name or the number of a team tha
 the used bytes after it less those before, is added to what its team has taken, which is never below 0. It is refused \
 if that would be above the team's limit (27), or if fewer bytes would be free after it than all other teams together \
 have yet to take of their shares (28), and says by how many, as --dry-run does. `counter record FILE` shows all teams. \
---force without --teams does not replace a record that has teams (73).";
+--force without --teams does not replace a record that has teams (73); with --teams what they had taken is 0 again. \
+Their lines in FILE are `team N limit N share N taken N edits N name NAME`, in the order of their numbers and ended by \
+LF, with `none` for no limit: a limit, a share or a name may be changed there by hand.";
 
 const FILL: &str = "\
 A clip of no bytes is not taken (65), from whatever source, unless --empty or --size 0 says that it is meant: \

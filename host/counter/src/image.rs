@@ -35,10 +35,12 @@ pub struct Image {
 }
 
 static AS_IS: AtomicBool = AtomicBool::new(false);
+static KNOWS_AS_IS: AtomicBool = AtomicBool::new(false);
 
-/// Whether an image is read although an edit of it was cut.
-pub fn as_is(wanted: bool) {
+/// Whether an image is read although an edit of it was cut, and whether the command knows that option.
+pub fn as_is(wanted: bool, known: bool) {
     AS_IS.store(wanted, Ordering::SeqCst);
+    KNOWS_AS_IS.store(known, Ordering::SeqCst);
 }
 
 impl Image {
@@ -185,9 +187,13 @@ pub fn untold(path: &Path, why: &io::Error) -> Failure {
 /// For a command that does not edit.
 fn unfinished(path: &Path) -> Failure {
     let edit = journal::words(path).map_or(String::new(), |words| format!(" ({words})"));
+    let or = match KNOWS_AS_IS.load(Ordering::SeqCst) {
+        true => "; --as-is takes the image as it is",
+        false => "",
+    };
     let text = format!(
         "{0}: an edit of this image was cut{edit}, and it may hold a part of it. Nothing was done. \
-         `counter recover {0}` finishes the edit; --as-is takes the image as it is",
+         `counter recover {0}` finishes the edit{or}",
         names::file(path)
     );
     Failure::error(CUT, text)

@@ -178,8 +178,10 @@ fn create_beside(file: &Path) -> io::Result<(PathBuf, File)> {
 
 fn write(new: &File, was: Option<&Metadata>, text: &[u8]) -> io::Result<()> {
     if let Some(was) = was {
-        // Where the disk has no owners or modes, there are none to be kept.
-        let _ = fchown(new, Some(was.uid()), Some(was.gid()));
+        // Where the disk has no owners or modes, there are none to be kept. Only root gives a file away; its
+        // group stays where whoever edits is of it.
+        let _ = fchown(new, Some(was.uid()), Some(was.gid()))
+            .or_else(|_| fchown(new, None, Some(was.gid())));
         let _ = new.set_permissions(was.permissions());
     }
     disk::write_at(On::Record, new, 0, text)?;

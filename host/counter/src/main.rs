@@ -140,7 +140,7 @@ fn run(args: Args) -> Outcome<u8> {
         let text = format!("{}: this is {}; name another file", names::file(path), journal::OURS);
         return Err(Failure::usage(text));
     }
-    image::as_is(args.as_is);
+    image::as_is(args.as_is, args.form.has("--as-is"));
     names::keep_raw(args.raw);
     match args.form.name {
         "info" => look::info(&args)?,

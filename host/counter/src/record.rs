@@ -5,7 +5,7 @@
 //! What comes back is in the journal, and in FILE before the journal goes. So an edit that was cut is counted
 //! exactly if it is finished.
 
-use crate::account::{self, Account, SECOND, Turn};
+use crate::account::{self, Account, Turn};
 use crate::args::Args;
 use crate::disc::{not_opened, space};
 use crate::failure::{CANNOT_CREATE, DATA, Failure, Outcome};
@@ -83,7 +83,7 @@ fn whose(file: &Path, account: Option<&Account>, given: Option<&OsStr>) -> Outco
         (Some(names), Some(given)) => match names.find(given) {
             Some(team) => return Ok(team),
             None => format!(
-                "--team {}: the record {shown} has no such team; it has {}",
+                "--team \"{}\": the record {shown} has no such team; it has {}",
                 names::file(given),
                 names.told()
             ),
@@ -129,13 +129,14 @@ pub fn record(args: &Args) -> Outcome<()> {
     let place = kept::place(args, None)?;
     let (image, mut desk, space) = space(args.image.as_deref())?;
     let account = made(&image, &mut desk, listed)?;
+    let mut notes = account.notes(space.opened.disc_end);
     if let Some(place) = &place {
         let kept = Kept::open(place, true)?;
         may_be_replaced(&kept, args)?;
         os::holding(|| kept::put(&kept.totals(account.text())))?;
+        notes.extend(forgotten(&kept));
     }
     let (end, file) = (space.opened.disc_end, args.record.as_ref().map(names::file));
-    let notes = account.notes(end);
     if args.json {
         let notes = notes.into_iter().map(Json::from).collect();
         let fields = vec![
@@ -149,6 +150,16 @@ pub fn record(args: &Args) -> Outcome<()> {
     let notes: String = notes.into_iter().map(|note| format!("note: {note}\n")).collect();
     let written = file.map_or(String::new(), |file| format!("written to {file}\n"));
     say([account.line(Some(end)), table, notes, written].concat().as_bytes())
+}
+
+/// What is gone with the record that was replaced.
+fn forgotten(kept: &Kept) -> Option<String> {
+    let old = Account::parse(kept.bytes.as_deref()?).ok()?;
+    let counted = old.record.teams.iter().any(|team| team.taken > 0 || team.edits > 0);
+    (counted && !old.names.is_empty()).then(|| {
+        "what the teams had taken in the record that was there, and their edits, are set to 0"
+            .into()
+    })
 }
 
 /// What stands in the place of IMAGE, if that is a record.
@@ -179,17 +190,12 @@ fn shown(args: &Args, kept: &Kept) -> Outcome<()> {
     say([account.line(None), table].concat().as_bytes())
 }
 
-/// Whether it begins as a record with teams does.
-fn has_teams(bytes: &[u8]) -> bool {
-    bytes.starts_with(SECOND.as_bytes())
-}
-
 /// Only a record is replaced, and only if that is wanted; one with teams by one with teams.
 fn may_be_replaced(kept: &Kept, args: &Args) -> Outcome<()> {
     let why = match &kept.bytes {
         None => return Ok(()),
         Some(bytes) if !account::begins(bytes) => "is there already, and is no record",
-        Some(bytes) if has_teams(bytes) && args.teams.is_none() => {
+        Some(bytes) if account::has_teams(bytes) && args.teams.is_none() => {
             "is there already, and has teams; --force --teams LIST replaces it, or take it away"
         }
         Some(_) if !args.force => "is there already; --force replaces it",
@@ -210,10 +216,10 @@ fn read(kept: &Kept) -> Outcome<Option<Account>> {
         Ok(account) => return Ok(Some(account)),
         Err(_) if !account::begins(bytes) => "this is no record; name another file".into(),
         Err(why) => {
-            let anew = match has_teams(bytes) {
+            let anew = match account::has_teams(bytes) {
                 true => {
-                    "`counter record IMAGE --record FILE --teams LIST --force` makes a new one, in which no team has \
-                     taken anything"
+                    "Put it right by hand, or `counter record IMAGE --record FILE --teams LIST --force` makes a \
+                     new one, in which no team has taken anything"
                 }
                 false => "Take it away: then the edit makes a new one, which counts from 0",
             };

@@ -71,7 +71,7 @@ impl Names {
             return Err(format!("team {team} is there twice"));
         }
         if let Some(name) = &name {
-            let shown = names::file(name);
+            let shown = short(name);
             if let Some(why) = unfit(name) {
                 return Err(format!("the name \"{shown}\": {why}"));
             }
@@ -84,8 +84,22 @@ impl Names {
     }
 }
 
+/// A name that may be of any length.
+fn short(name: &str) -> String {
+    match name.char_indices().nth(LONGEST) {
+        Some((end, _)) => format!("{}..", names::file(&name[..end])),
+        None => names::file(name),
+    }
+}
+
+/// Whether it shows nothing, where it stands in a name.
+fn is_unseen(c: char) -> bool {
+    matches!(c, '\u{ad}' | '\u{200b}'..='\u{200f}' | '\u{2060}' | '\u{feff}')
+}
+
 /// What is wrong with a name.
 fn unfit(name: &str) -> Option<String> {
+    let words: Vec<&str> = name.split_ascii_whitespace().collect();
     match name {
         _ if is_number(name.as_bytes()) => {
             Some("this is a number, and --team would take it for one".into())
@@ -97,6 +111,11 @@ fn unfit(name: &str) -> Option<String> {
         _ if name.contains(is_obeyed) => {
             Some("it holds a control character, or one that turns the direction of writing".into())
         }
+        _ if name.contains(is_unseen) => Some("it holds a character that shows nothing".into()),
+        _ if name.trim() != name || name.is_empty() => {
+            Some("it is blank, at one end or altogether".into())
+        }
+        _ if words.join(" ") != name => Some("it holds two spaces, one behind the other".into()),
         _ => None,
     }
 }
@@ -133,6 +152,9 @@ impl Listed {
 
     fn add(&mut self, line: &[u8]) -> Result<(), String> {
         let text = std::str::from_utf8(line).map_err(|_| "this is no UTF-8")?;
+        if text.contains(|c: char| c.is_control() && c != '\t') {
+            return Err("this line holds a control character".into());
+        }
         let mut words = text.split_ascii_whitespace();
         let (Some(team), Some(limit), Some(share)) = (words.next(), words.next(), words.next())
         else {

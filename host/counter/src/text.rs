@@ -162,7 +162,15 @@ pub fn wide(c: char) -> bool {
 
 /// How many columns of a terminal the text takes.
 pub fn width(text: &str) -> usize {
-    text.chars().map(|c| if wide(c) { 2 } else { 1 }).sum()
+    let columns = |c| match c {
+        // What is put over the letter before it.
+        '\u{300}'..='\u{36f}' | '\u{3099}' | '\u{309a}' | '\u{fe00}'..='\u{fe0f}' => 0,
+        // Hangul and pictures, which no name in an image has.
+        '\u{1100}'..='\u{115f}' | '\u{ac00}'..='\u{d7a3}' | '\u{1f300}'..='\u{1faff}' => 2,
+        c if wide(c) => 2,
+        _ => 1,
+    };
+    text.chars().map(columns).sum()
 }
 
 /// Whether a terminal or a page obeys a character and does not show it: controls, ends of lines, and what turns

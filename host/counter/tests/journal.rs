@@ -158,7 +158,9 @@ fn a_cut_edit_is_told_and_finished() {
             "{args:?}: {}",
             run.err
         );
-        assert!(run.err.contains("counter recover ") && run.err.contains("--as-is"), "{}", run.err);
+        assert!(run.err.contains("counter recover "), "{args:?}: {}", run.err);
+        // It is told of commands that take it.
+        assert_eq!(run.err.contains("--as-is"), !args.contains(&"--dry-run"), "{}", run.err);
         assert_eq!(run.out, "", "{args:?}");
     }
     assert!(!svg.exists() && !page.exists());

@@ -410,7 +410,8 @@ fn a_spoiled_record_is_told() {
     for (i, text) in spoiled.iter().enumerate() {
         fs::write(&file, text).unwrap();
         // Nobody is told to take a file away that is not the program's.
-        let begins = text.starts_with("counter record ") && text.len() <= 0x1000;
+        let begins = text.trim_start_matches('\u{feff}').starts_with("counter record ")
+            && text.len() <= 0x1000;
         let words = match begins {
             true => ": this record is torn, or of another version of counter: ",
             false => ": this is no record; name another file. Nothing was written\n",

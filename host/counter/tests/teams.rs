@@ -5,7 +5,11 @@
 mod support;
 
 use std::fs;
+use std::io;
+use std::os::unix::fs::{MetadataExt, PermissionsExt, chown};
+use std::os::unix::process::CommandExt;
 use std::path::{Path, PathBuf};
+use std::process::Command;
 use support::*;
 
 /// The small master: its table ends at 1114, /a has 256 bytes at 1280, the disc ends at 8192. 1370 bytes are
@@ -191,7 +195,7 @@ fn limits_and_shares_that_are_passed_are_told() {
         // Team 0 has taken more than it may.
         let file = record(&temp, "team 0 limit 5 share 0 taken 9 edits 3 name art\n");
         let words = "refused 27: taken bytes above the team's limit (team art has taken 9 bytes and the edit \
-                     costs nothing: 4 above its limit of 5)";
+                     costs nothing: 4 above its limit of 5; if it may take more, raise the limit in the record's FILE)";
         let told = not_done("art", &image, &file, args, 27, words);
         let limit = told.at("limit");
         let fields = ["team", "taken", "cost", "limit", "above"];
@@ -229,7 +233,7 @@ fn limits_and_shares_that_are_passed_are_told() {
     not_done("art", &image, &of(&full.replacen('5', "9", 1), other), &rewrite, 28, "refused 28");
     let file = of(&full.replacen('5', "9", 1), &other.replace("6823", "6822"));
     let words = "refused 25: used bytes or edit count would leave 0 to 2^32 - 1 (the count of team art is at its \
-                 end; `counter record IMAGE --record FILE --teams LIST --force` makes a new one)";
+                 end; `counter record IMAGE --record FILE --teams LIST --force` makes a new one, in which no team has taken anything)";
     not_done("art", &image, &file, &rewrite, 25, words);
     // Another team's count plays no part.
     let line =
@@ -239,13 +243,20 @@ fn limits_and_shares_that_are_passed_are_told() {
     not_done("art", &image, &of(full, other), &["move", "a", "0x400"], 21, "refused 21");
     not_done("art", &image, &of(full, other), &["add", "a"], 19, "refused 19");
 
+    // No limit is one too, and the highest.
+    let file = record(&temp, "team 0 limit none share 0 taken 4294967290 edits 0 name art\n");
+    let words = "(team art has taken 4,294,967,290 bytes and the edit costs 14 bytes: 9 above 4,294,967,295, the \
+                 most that any team can take)";
+    not_done("art", &image, &file, &["mkdir", "d"], 27, words);
+
     // An edit that gives bytes back, and one that costs some.
     let file = record(&temp, "team 0 limit 5 share 0 taken 9 edits 0 name art\n");
     let words =
-        "team art has taken 9 bytes and the edit gives 1 byte back: 3 above its limit of 5)";
+        "team art has taken 9 bytes and the edit gives 1 byte back: 3 above its limit of 5; if it";
     let told = not_done("art", &image, &file, &["resize", "a", "255"], 27, words);
     assert_eq!(told.at("limit").at("cost"), &Json::Number(-1.0));
-    let words = "team art has taken 9 bytes and the edit costs 14 bytes: 18 above its limit of 5)";
+    let words =
+        "team art has taken 9 bytes and the edit costs 14 bytes: 18 above its limit of 5; if it";
     not_done("art", &image, &file, &["mkdir", "d"], 27, words);
     let line = said("art", &image, &file, &["resize", "a", "252"]);
     assert!(line.contains("\nteam art: taken 5 bytes, limit 5 bytes"), "{line}");
@@ -364,7 +375,7 @@ fn any_edits_by_three_teams() {
         match own.status {
             0 if above > 0 => {
                 assert_eq!(run.status, 27, "{what}");
-                let words = format!(": {} above its limit of {})", grouped(above), grouped(limit));
+                let words = format!(": {} above its limit of {};", grouped(above), grouped(limit));
                 assert!(run.err.contains(&words), "{what}");
                 seen[1] += 1;
             }
@@ -415,7 +426,8 @@ fn a_team_is_named_exactly_where_the_record_has_teams() {
     let has = format!("the record {name} has the teams 0 art, 3\n");
     wrong(&["--record", &name], &format!("--team NAME or NUMBER is missing: {has}"));
     for team in ["Art", "artist", "", "1", "16", "4294967296", "-1", " art", "0x"] {
-        let words = format!("--team {team}: the record {name} has no such team; it has 0 art, 3\n");
+        let words =
+            format!("--team \"{team}\": the record {name} has no such team; it has 0 art, 3\n");
         wrong(&["--record", &name, "--team", team], &words);
     }
     wrong(&["--team", "art"], "--team is for --record FILE, a record that has teams\n");
@@ -505,7 +517,7 @@ fn a_list_that_is_wrong_is_told_with_its_line() {
     let file = record(&temp, "team 0 limit none share 0 taken 0 edits 7\n");
     let kept = read(&file);
     let long = "x".repeat(101);
-    let wrong: [(&str, &str); 19] = [
+    let wrong: [(&str, &str); 25] = [
         ("0 1 1 a\n\n0 2 2 b\n", ", line 3: team 0 is there twice\n"),
         ("16 1 1 a\n", ", line 1: there is no team 16: teams have the numbers 0 to 15\n"),
         ("4294967296 1 1 a\n", ", line 1: team 4294967296: above 2^32 - 1"),
@@ -528,7 +540,13 @@ fn a_list_that_is_wrong_is_told_with_its_line() {
             "0 1 1 a\u{202e}b\n",
             ", line 1: the name \"a\\xe2\\x80\\xaeb\": it holds a control character",
         ),
-        ("0 1 1 a\u{1b}[2J\n", ", line 1: the name \"a\\x1b[2J\": it holds a control character"),
+        ("0 1 1 a\u{1b}[2J\n", ", line 1: this line holds a control character\n"),
+        ("0 1 1 a\r1 2 2 b\n", ", line 1: this line holds a control character\n"),
+        ("0 1 1 a\u{c}1 2 2 b\n", ", line 1: this line holds a control character\n"),
+        ("0 1 1 \u{3000}\n", "the name \"\u{3000}\": it is blank, at one end or altogether\n"),
+        ("0 1 1 a\u{a0}\n", ": it is blank, at one end or altogether\n"),
+        ("0 1 1 a\u{200b}\n", "it holds a character that shows nothing\n"),
+        ("0 1 1 a\u{feff}b\n", "it holds a character that shows nothing\n"),
         (&format!("0 1 1 {long}\n"), "it has 101 bytes, and 100 are the most\n"),
         ("# nobody\n\n", ": it names no team\n"),
     ];
@@ -604,7 +622,7 @@ fn a_spoiled_record_with_teams_is_told() {
     let good = first(good);
     let fields = "line 3: `team N limit N share N taken N edits N name NAME` is wanted";
     let written = "line 3 is not as the program writes it";
-    let spoiled: [(String, &str); 21] = [
+    let spoiled: [(String, &str); 25] = [
         (
             good.replace("record 2", "record 3"),
             "its first line is of no version that this program knows",
@@ -615,7 +633,7 @@ fn a_spoiled_record_with_teams_is_told() {
         (good.replace("teams 2", "teams 1"), "it has 2 teams, and line 2 says 1"),
         (
             good.lines().take(3).map(|line| format!("{line}\n")).collect(),
-            "it has 1 teams, and line 2 says 2",
+            "it has 1 team, and line 2 says 2",
         ),
         (good.replace("1370", "01370"), "line 2 is not as the program writes it"),
         (good.replace("limit 70", "limit 4294967296"), fields),
@@ -629,16 +647,23 @@ fn a_spoiled_record_with_teams_is_told() {
         (good.replace("name b", "#"), "line 3: the name \"a #\": it holds a #"),
         (good.replace("name a name b", "name 7"), "line 3: the name \"7\": this is a number"),
         (format!("{good}\n"), "line 5: `team N limit"),
-        (good.replace("\n", "\r\n"), "its first line is of no version"),
+        (good.replace("\n", "\r\n"), "its lines end with CR LF; LF alone is wanted"),
+        (format!("\u{feff}{good}"), "it begins with a byte order mark; none is wanted"),
+        (
+            good.replace("name a name b", "name a  b"),
+            "line 3: the name \"a  b\": it holds two spaces",
+        ),
+        (good.replace("name b", "name b "), "line 3: the name \"a name b \": it is blank, at one"),
+        (good.replace("name a name b", "name "), "line 3: the name \"\": it is blank, at one end"),
         (good.trim_end().into(), "line 4 is not as the program writes it"),
-        (first(""), "it has 0 teams, and line 2 says 0"),
+        (first(""), "it has the form of one with teams, and no team"),
     ];
     for (text, why) in &spoiled {
         fs::write(&file, text).unwrap();
         let words = format!("this record is torn, or of another version of counter: {why}");
-        let anew = match text.starts_with("counter record 2\n") {
+        let anew = match text.trim_start_matches('\u{feff}').starts_with("counter record 2") {
             true => {
-                ". `counter record IMAGE --record FILE --teams LIST --force` makes a new one, in which no team has"
+                ". Put it right by hand, or `counter record IMAGE --record FILE --teams LIST --force` makes a new one"
             }
             false => {
                 ". Take it away: then the edit makes a new one, which counts from 0. Nothing was written\n"
@@ -756,11 +781,54 @@ fn teams_are_not_lost_unsaid() {
         image.display()
     );
     not_done("art", &image, &file, &["rewrite"], 65, &words);
-    assert_eq!(make(&temp, &image, "0 none 5 art\n").status, 0);
+    let note = "note: what the teams had taken in the record that was there, and their edits, are set to 0\n";
+    let run = make(&temp, &image, "0 none 5 art\n");
+    assert!(run.status == 0 && run.out.contains(note), "{}{}", run.out, run.err);
+    let run = make(&temp, &image, "0 none 5 art\n");
+    assert!(run.status == 0 && !run.out.contains("note: "), "{}{}", run.out, run.err);
     assert_eq!(
         read(&file),
         text(1384, 6656, "team 0 limit none share 5 taken 0 edits 0 name art\n")
     );
+}
+
+/// Whoever edits and is not the owner of the record keeps its group, if he is of it.
+#[test]
+fn the_group_of_the_file_is_kept() {
+    if fs::metadata("/proc/self").unwrap().uid() != 0 {
+        not_tried("a record of a group: only root makes files of others");
+        return;
+    }
+    let temp = Temp::new();
+    let (image, file) =
+        (small(&temp), record(&temp, "team 0 limit none share 0 taken 0 edits 0\n"));
+    // Where the program is built nobody else may be let in.
+    let own = temp.at("counter");
+    let copied = Command::new("cp").arg(env!("CARGO_BIN_EXE_counter")).arg(&own).status().unwrap();
+    assert!(copied.success());
+    for (path, mode) in [(&temp.at(""), 0o777), (&image, 0o666), (&file, 0o664), (&own, 0o755)] {
+        fs::set_permissions(path, fs::Permissions::from_mode(mode)).unwrap();
+    }
+    chown(&file, Some(1001), Some(2000)).unwrap();
+    let mut command = Command::new(&own);
+    command.arg("rewrite").arg(&image).args(["--team", "0", "--record"]).arg(&file);
+    // SAFETY: between fork and exec only these calls of the system are made.
+    unsafe {
+        command.pre_exec(|| {
+            let made = setgroups(1, &2000) | setgid(1002) | setuid(1002);
+            if made == 0 { Ok(()) } else { Err(io::Error::last_os_error()) }
+        });
+    }
+    let run: Run = command.output().unwrap().into();
+    assert_eq!(run.status, 0, "{}", run.err);
+    let told = fs::metadata(&file).unwrap();
+    assert_eq!((told.uid(), told.gid(), told.mode() & 0o777), (1002, 2000, 0o664));
+}
+
+unsafe extern "C" {
+    fn setgroups(count: usize, groups: *const u32) -> i32;
+    fn setgid(group: u32) -> i32;
+    fn setuid(user: u32) -> i32;
 }
 
 // Cuts ------------------------------------------------------------------------------------
@@ -802,6 +870,13 @@ fn a_cut_edit_is_counted_for_its_team_when_it_is_finished() {
     );
     assert_eq!((out, read(&file)), (wanted, text.clone()));
     let (image, _) = cut(&temp, &moved, 9);
+    // What an option is for is told of commands that have it.
+    for (args, told) in
+        [(&["record"][..], false), (&["mkdir", "e", "--dry-run"], false), (&["info"], true)]
+    {
+        let run = on(args[0], &image, &args[1..]);
+        assert_eq!((run.status, run.err.contains("--as-is")), (78, told), "{args:?}: {}", run.err);
+    }
     let told = json("recover", &image, &[]);
     let team = told.at("record").at("team");
     assert_eq!((team.at("number").number(), team.at("edits").number()), (9, 2));
