@@ -164,13 +164,13 @@ record-tells image w₀ w limits shares t calls b l s e h a on =
       totals = tells-along calls image t (rw m.1) on;
       afresh = λ limits shares. rw k.opens;
       teams = λ j d.
-      let made : team_of t j ≡ new_team (slice_index limits j) (slice_index shares j) = ap (λ (t : Totals). team_of t j) m.1 ∙ new-team limits shares j (omega (arith, l, d)) (omega (arith, s, d)) in
-      let n : j < length t.teams = omega (arith, sixteen, d) in
-      let given = given-along calls image t j on in
-      let none : (team_of t j).taken ≡ 0 = ap (λ (m : Team). m.taken) made in
-      as-told _ _ _ _ _ (given.0 ∙ ap (λ (m : Team). m.limit) made) (given.1 ∙ ap (λ (m : Team). m.share) made)
-      (takes-along calls image t j n on ∙ rw none refl)
-      (counts-along calls image t j n on ∙ rw (ap (λ (m : Team). m.edits) made) (omega arith));
+          let made : team_of t j ≡ new_team (slice_index limits j) (slice_index shares j) = ap (λ (t : Totals). team_of t j) m.1 ∙ new-team limits shares j (omega (arith, l, d)) (omega (arith, s, d)) in
+          let n : j < length t.teams = omega (arith, sixteen, d) in
+          let given = given-along calls image t j on in
+          let none : (team_of t j).taken ≡ 0 = ap (λ (m : Team). m.taken) made in
+          as-told _ _ _ _ _ (given.0 ∙ ap (λ (m : Team). m.limit) made) (given.1 ∙ ap (λ (m : Team). m.share) made)
+          (takes-along calls image t j n on ∙ rw none refl)
+          (counts-along calls image t j n on ∙ rw (ap (λ (m : Team). m.edits) made) (omega arith));
     }
 
 -- THEOREM: a record made anew of the last image has the used bytes and the largest region of the one that was handed on, and no count
