@@ -1,6 +1,7 @@
 // What a decision does to the image.
 ghost use Rattle.std.specs.Prelude.{◌≡◌, ◌+◌, length, replicate};
 ghost use Rattle.endian.specs.Bytes.{put, span};
+ghost use Rattle.header.specs.Verdicts.{fst_offset, fst_size};
 ghost use Rattle.edit_rules.specs.Change.{image_with_table};
 ghost use Rattle.edit.specs.Inner.Decision.{CopyFits, ZeroFits, TableFits, Fits, written_with};
 ghost use Rattle.edit.specs.Inner.Decision.{Into, clipped_image};
@@ -20,9 +21,19 @@ fn commit(image: &mut [u8], bytes: &[u8], fst_offset: usize, fst_size: usize, si
     endian::write_u32(image, Field::FST_SIZE.at, size as u32);
 }
 
+// The table over the one that the image has.
+pub(crate) fn write_table(image: &mut [u8], bytes: &[u8], size: usize)
+    requires { TableFits (length image.old) (length bytes.now) (fst_offset image.old) (fst_size image.old) size }
+    ensures { image.new ≡ image_with_table (fst_offset image.old) (fst_size image.old) (span bytes.now 0 size) image.old }
+{
+    let fst_offset = header::fst_offset(image) as usize;
+    let fst_size = header::fst_size(image) as usize;
+    commit(image, bytes, fst_offset, fst_size, size);
+}
+
 // The bytes of a file to its new place. No byte may be asked for at a place past the image: an empty file may
 // go anywhere.
-fn copy_kept(image: &mut [u8], source: usize, to: usize, n: usize)
+pub(crate) fn copy_kept(image: &mut [u8], source: usize, to: usize, n: usize)
     requires { CopyFits (length image.old) source to n }
     ensures { image.new ≡ put image.old to (span image.old source n) }
 {
@@ -32,8 +43,8 @@ fn copy_kept(image: &mut [u8], source: usize, to: usize, n: usize)
     endian::copy_within(image, source, to, n);
 }
 
-// Zeros over bytes that no file has any more.
-fn zero_lost(image: &mut [u8], at: usize, n: usize)
+/// Zeros over bytes that no file has any more. No byte may be asked for at a place past the image.
+pub fn zero_lost(image: &mut [u8], at: usize, n: usize)
     requires { ZeroFits (length image.old) at n }
     ensures { image.new ≡ put image.old at (replicate n 0) }
 {

@@ -2,9 +2,10 @@
 
 ghost use Rattle.std.specs.Prelude.{◌≡◌, length};
 ghost use Rattle.edit.specs.Inner.Decision.{CanCarry, decision_number, carried_answer, carried_image};
+ghost use Rattle.edit.specs.Inner.Decision.{carried_verdict, CanCopy, copied_by, CanTable, tabled_by, lost_by};
 
 use crate::carry_out;
-use refusal::Refusal;
+use refusal::{Refusal, Verdict};
 use space::DiscRegion;
 
 /// Bytes of an image: from `offset` on, `size` of them.
@@ -99,4 +100,39 @@ pub fn finish(
     ensures image_after { image.new ≡ carried_image decided bytes.now clip.now image.old }
 {
     Ok(decided?.carry_out(image, bytes, clip))
+}
+
+// ---- in parts, of an edit that brings no clip
+
+/// Writes what a decision copies, and nothing else, or hands the refusal back.
+pub fn finish_copy(image: &mut [u8], decided: Result<Decision, Refusal>) -> Verdict
+    requires { CanCopy image.old decided }
+    ensures answer { result ≡ carried_verdict decided }
+    ensures image_after { image.new ≡ copied_by decided image.old }
+{
+    if let Decision::Write { writing, .. } = decided? {
+        let Writing {
+            old, place, kept, ..
+        } = writing;
+        carry_out::copy_kept(image, old.offset as usize, place.offset as usize, kept);
+    }
+    Ok(())
+}
+
+/// Writes the table of a decision, and nothing else, and gives what is left to be zeroed, or hands the refusal
+/// back.
+pub fn finish_table(
+    image: &mut [u8],
+    bytes: &[u8],
+    decided: Result<Decision, Refusal>,
+) -> Result<Span, Refusal>
+    requires { CanTable image.old (length bytes.now) decided }
+    ensures answer { result ≡ lost_by decided }
+    ensures image_after { image.new ≡ tabled_by decided bytes.now image.old }
+{
+    let Decision::Write { size, writing, .. } = decided? else {
+        return Ok(Writing::NOTHING.lost);
+    };
+    carry_out::write_table(image, bytes, size);
+    Ok(writing.lost)
 }

@@ -27,8 +27,9 @@ pub use anew::table_anew;
 pub use calls::{
     fill_file, insert_directory, insert_file, make_directories, move_file, resize_file, rewrite,
 };
-pub use decision::{Decision, Span, Writing};
+pub use carry_out::zero_lost;
+pub use decision::{Decision, Span, Writing, finish_copy, finish_table};
 pub use list::{Turn, apply_all};
 pub use new_entry::NewEntry;
-pub use pipeline::{Edit, decide, done, run};
+pub use pipeline::{Edit, decide, decide_image, done, run};
 pub use table_writing::Kind;

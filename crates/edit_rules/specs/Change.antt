@@ -32,11 +32,17 @@ padded_table table size = table ++ replicate (size - length table) 0
 unfoldable pub image_with_table : ℕ → ℕ → List ℕ → List ℕ → List ℕ
 image_with_table f size table image = put (put image f (padded_table table size)) fst_size_field.at (be32_bytes (length table))
 
--- in this order: the file's bytes at its new place, the table, zeros over what the file left or lost
+-- the file's bytes at its new place
+abbrev pub copied_image : Change → List ℕ → List ℕ
+copied_image c image = put image c.place.offset (span image c.old.offset c.kept)
+
+-- zeros over a region
+abbrev pub zeroed_image : DiscRegion → List ℕ → List ℕ
+zeroed_image r image = put image r.offset (replicate r.size 0)
+
+-- in this order: the copy, the table, zeros over what the file left or lost
 unfoldable pub written_image : Change → List ℕ → List ℕ
-written_image c image =
-    put (image_with_table (fst_offset image) (fst_size image) (encode c.nodes) (put image c.place.offset (span image c.old.offset c.kept)))
-    c.lost.offset (replicate c.lost.size 0)
+written_image c image = zeroed_image c.lost (image_with_table (fst_offset image) (fst_size image) (encode c.nodes) (copied_image c image))
 
 -- RULES, The stated maximum: 0 states none
 abbrev pub is_above_maximum : Disc → ℕ → Bool

@@ -42,10 +42,11 @@ pub enum Refusal {
     TableAboveMaximum = 26,
     TakenAboveLimit = 27,
     FreeBelowShares = 28,
+    SpanNotFree = 29,
 }
 
 impl Refusal {
-    /// The number of the cause, 1 to 28.
+    /// The number of the cause, 1 to 29.
     pub fn number(self) -> u32
         ensures { result ≡ number_of self }
     {
@@ -86,6 +87,7 @@ impl fmt::Display for Refusal {
             Refusal::TableAboveMaximum => "new table above the maximum",
             Refusal::TakenAboveLimit => "taken bytes above the team's limit",
             Refusal::FreeBelowShares => "free bytes below the other teams' shares",
+            Refusal::SpanNotFree => "span to be zeroed not wholly free",
         })
     }
 }

@@ -54,6 +54,7 @@ impl TryFrom<u32> for Refusal {
             26 => Ok(Refusal::TableAboveMaximum),
             27 => Ok(Refusal::TakenAboveLimit),
             28 => Ok(Refusal::FreeBelowShares),
+            29 => Ok(Refusal::SpanNotFree),
             _ => Err(NoCause(number)),
         }
     }

@@ -8,6 +8,7 @@ use Rattle.header.specs.Verdicts.{fst_offset, fst_size}
 use Rattle.tree.specs.Table.{Node, encode}
 use Rattle.space.specs.declared.region.DiscRegion.{DiscRegion}
 use Rattle.space.specs.Used.{no_region}
+use Rattle.edit.specs.declared.decision.Span.{Span}
 use Rattle.edit.specs.declared.decision.Writing.{Writing}
 use Rattle.edit.specs.declared.decision.Decision.{Decision}
 use Rattle.edit.specs.declared.decision.Decision.TheVariants as decision
@@ -112,6 +113,39 @@ carried_image (Err c) bytes clip image = image
 carried_image (Ok decision.Nothing) bytes clip image = image
 carried_image (Ok (decision.Clip n at)) bytes clip image = clipped_image image at clip
 carried_image (Ok (decision.Write n size w)) bytes clip image = written_with w (span bytes 0 size) (clipped_image image w.place.offset clip)
+
+-- ---- a decision carried out in parts, of an edit without a clip
+
+abbrev pub CanCopy : List ℕ → Result Decision Refusal → Type 0
+CanCopy image (Err c) = Unit {0}
+CanCopy image (Ok decision.Nothing) = Unit {0}
+CanCopy image (Ok (decision.Clip n at)) = Unit {0}
+CanCopy image (Ok (decision.Write n size w)) = CopyFits (length image) w.old.offset w.place.offset w.kept
+
+abbrev pub copied_by : Result Decision Refusal → List ℕ → List ℕ
+copied_by (Err c) image = image
+copied_by (Ok decision.Nothing) image = image
+copied_by (Ok (decision.Clip n at)) image = image
+copied_by (Ok (decision.Write n size w)) image = put image w.place.offset (span image w.old.offset w.kept)
+
+abbrev pub CanTable : List ℕ → ℕ → Result Decision Refusal → Type 0
+CanTable image room (Err c) = Unit {0}
+CanTable image room (Ok decision.Nothing) = Unit {0}
+CanTable image room (Ok (decision.Clip n at)) = Unit {0}
+CanTable image room (Ok (decision.Write n size w)) = TableFits (length image) room (fst_offset image) (fst_size image) size
+
+abbrev pub tabled_by : Result Decision Refusal → List ℕ → List ℕ → List ℕ
+tabled_by (Err c) bytes image = image
+tabled_by (Ok decision.Nothing) bytes image = image
+tabled_by (Ok (decision.Clip n at)) bytes image = image
+tabled_by (Ok (decision.Write n size w)) bytes image = image_with_table (fst_offset image) (fst_size image) (span bytes 0 size) image
+
+-- what is left to be zeroed
+abbrev pub lost_by : Result Decision Refusal → Result Span Refusal
+lost_by (Err c) = Err c
+lost_by (Ok decision.Nothing) = Ok nothing_besides.lost
+lost_by (Ok (decision.Clip n at)) = Ok nothing_besides.lost
+lost_by (Ok (decision.Write n size w)) = Ok w.lost
 
 pub record IsCarried (n size : ℕ) (w : Writing) (bytes : List ℕ) (k : ℕ) (c : Change) : Type 0 where
   pub number : n ≡ k

@@ -1,0 +1,2 @@
+-- Definitions that only inner contracts need.
+pub mod Span

@@ -1,0 +1,6 @@
+pub mod Asked
+pub mod Parts
+pub mod Places
+pub mod Promise
+pub mod Theorem
+pub mod Inner

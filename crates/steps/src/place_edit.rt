@@ -1,0 +1,28 @@
+// The edits that three calls can make.
+ghost use Rattle.std.specs.Prelude.{◌≡◌};
+ghost use Rattle.edit.specs.Asked.{edit_of};
+ghost use Rattle.steps.specs.Asked.{place_edit_of, IsPlaceEdit};
+
+use edit::Edit;
+
+/// An edit of a file's place or size. Files go by their entry numbers; offsets and sizes are in bytes.
+#[derive(Clone, Copy, Debug, PartialEq, Eq)]
+pub enum PlaceEdit {
+    /// The file goes to another offset.
+    Move { file: u32, offset: u32 },
+    /// The file gets another size, and another place where it cannot grow where it is.
+    Resize { file: u32, size: u32 },
+}
+
+impl PlaceEdit {
+    /// The same edit, as one call makes it.
+    pub fn whole(self) -> Edit<'static>
+        ensures same { edit_of result ≡ place_edit_of self }
+        ensures place_edit { IsPlaceEdit (place_edit_of self) }
+    {
+        match self {
+            PlaceEdit::Move { file, offset } => Edit::Move { file, offset },
+            PlaceEdit::Resize { file, size } => Edit::Resize { file, size },
+        }
+    }
+}
