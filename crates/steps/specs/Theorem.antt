@@ -1,6 +1,6 @@
 -- A move or a resize in three calls, each on the image as the one before left it, and what holds of an image that was left between two of them
 -- (RULES, In three calls). Proved in proofs/Laws: `three-calls` of ThreeCalls, `cuts-kept` of CutsKept. Assumes nothing: these are definitions.
-use Rattle.std.specs.Prelude.{Ok, ℕ, ◌≤◌, ◌≡◌, ◌×◌, List, slice_index_or}
+use Rattle.std.specs.Prelude.{Ok, ℕ, ◌≤◌, ◌≡◌, List, slice_index_or}
 use Rattle.endian.specs.Bytes.{span, AllBytes}
 use Rattle.tree.specs.Table.{file, empty_root}
 use Rattle.space.specs.declared.region.DiscRegion.{DiscRegion}
