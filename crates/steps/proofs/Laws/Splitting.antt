@@ -14,7 +14,7 @@ use Rattle.space.specs.declared.region.DiscRegion.{DiscRegion}
 use Rattle.space.specs.Used.{no_region}
 use Rattle.space.specs.MaxRegionSize.{max_region_size}
 use Rattle.space.specs.Allocate.{allocation_of}
-use Rattle.opened.specs.Opening.{nodes_in, free_space_of, opening, disc_of}
+use Rattle.opened.specs.Opening.{nodes_in, free_space_of, disc_of}
 use Rattle.edit_rules.specs.Change.{Change, written_image, Plan, refused, nothing, change, filled}
 use Rattle.edit_rules.specs.Edits.{Edit, Account, insert_file, insert_directory, make_directories, move_file, resize_file, fill_file, rewrite, plan_behind, file_verdict, relocation_change, relocate_verdict, plan_move, resize_change, plan_elsewhere, plan_resize, plan_of, plan_verdict, verdict_of}
 use Rattle.edit_rules.proofs.Laws.Accepted.{Accepted, accepted}
@@ -22,7 +22,7 @@ use Rattle.ledger.specs.Ledger.{Ledger, first_ledger}
 use Rattle.ledger.proofs.Laws.Written.{fst-offset-written_image, fst-size-written_image, disc-end-written_image}
 use Rattle.ledger.proofs.Laws.Files.{files_in, places_in, files-set_place, files-count, files-at}
 use Rattle.ledger.proofs.Laws.Apart.{Has, region}
-use Rattle.ledger.proofs.Laws.Opened.{Opened, opened}
+use Rattle.ledger.proofs.Laws.Opened.{Opened}
 use Rattle.ledger.proofs.Laws.Room.{room, Placeable, elsewhere}
 use Rattle.ledger.proofs.Laws.Kept.{Kept, opened-kept}
 use Rattle.ledger.proofs.Laws.Placed.{place_in, number_in, place_number, place_is, not_there, Placed, placed-opens, placed-tree, placed-program, resized-placed}
