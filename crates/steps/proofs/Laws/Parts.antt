@@ -1,14 +1,13 @@
 -- Words of the laws: a place that is free in an image, images that differ in one place alone, and a change that can be made in three parts; and what they say
 -- in the words of specs/Places. Assumes nothing.
-use Rattle.std.specs.Prelude.{Ok, ℕ, ◌≤◌, ◌≡◌, false, List, length, get_or}
+use Rattle.std.specs.Prelude.{Ok, ℕ, ◌+◌, ◌≤◌, ◌≡◌, false, List, length, get_or}
 use Rattle.std.proofs.Common.{⊎_elim, inl, inr}
 use Rattle.endian.specs.Laws.Stored.{Outside}
-use Rattle.refusal.specs.Laws.Tests.{lt-or-le, is_false, never_both}
+use Rattle.refusal.specs.Laws.Tests.{lt-or-le, never_both}
 use Rattle.header.specs.Verdicts.{table_end}
 use Rattle.space.specs.declared.region.DiscRegion.{DiscRegion}
-use Rattle.space.specs.Used.{is_inside, end_of}
+use Rattle.space.specs.Used.{is_inside}
 use Rattle.space.specs.Laws.UsedLaws.{is_inside-in}
-use Rattle.space.specs.Laws.LayoutLaws.{is_inside-from, is_inside-to}
 use Rattle.opened.specs.Opening.{nodes_in, opening}
 use Rattle.edit_rules.specs.Change.{Change, written_image}
 use Rattle.ledger.proofs.Laws.Written.{Safe}
@@ -40,14 +39,11 @@ pub record Parts (w : ℕ) (c : Change) (image : List ℕ) : Type 0 where
 
 -- ---- in the words of specs/Places
 
-pub not_inside : (r : DiscRegion) (i : ℕ) → is_inside r i ≡ false → Has r i → ⊥
+not_inside : (r : DiscRegion) (i : ℕ) → is_inside r i ≡ false → Has r i → ⊥
 not_inside r i e h = never_both (is_inside r i) (is_inside-in r i h.0 h.1) e
 
-pub inside_not : (r : DiscRegion) (i : ℕ) → (Has r i → ⊥) → is_inside r i ≡ false
-inside_not r i h = is_false (is_inside r i) (λ e. h (is_inside-from r i e, is_inside-to r i e))
-
-pub outside_region : (r : DiscRegion) (i : ℕ) → is_inside r i ≡ false → Outside r.offset r.size i
-outside_region r i e = ⊎_elim (λ a. inl a) (λ a. ⊎_elim (λ b. absurd (not_inside r i e (a, b))) (λ b. inr b) (lt-or-le i (end_of r))) (lt-or-le i r.offset)
+pub outside_region : (at n i : ℕ) → is_inside (record { offset = at; size = n }) i ≡ false → Outside at n i
+outside_region at n i e = ⊎_elim (λ a. inl a) (λ a. ⊎_elim (λ b. absurd (not_inside (record { offset = at; size = n }) i e (a, b))) (λ b. inr b) (lt-or-le i (at + n))) (lt-or-le i at)
 
 pub differ-only : (image image' : List ℕ) (r : DiscRegion) → OnlyIn image image' r → DifferOnlyIn image image' r
 differ-only image image' r d = record { len = d.len; same = λ i e. d.same i (not_inside r i e) }
