@@ -76,8 +76,9 @@ module _ (ed : Edit) (a : Account) (image : List ℕ) (words bytes : ℕ) (h : I
       go (Err x) e = no-table-written image _
 
 module _ (image : List ℕ) (words : ℕ) (span : DiscRegion) (b : AllBytes image) where
-  fits : zero_verdict image words span ≡ Ok tt → Fits image span.offset span.size
-  fits v z =
+  -- LAW: an accepted span lies in the image
+  pub span-fits : zero_verdict image words span ≡ Ok tt → Fits image span.offset span.size
+  span-fits v z =
       let s = span-accepted image words span v in
       omega (arith, reaches-end image span z s.1, (opened image words s.0 b).bounds.image_holds)
 
@@ -87,5 +88,5 @@ module _ (image : List ℕ) (words : ℕ) (span : DiscRegion) (b : AllBytes imag
   own-zeros = go (zero_verdict image words span) refl
     where
       go : (v : Verdict) → zero_verdict image words span ≡ v → DifferOnlyIn image (cond (is_err v) image (zeroed_image span image)) span
-      go (Ok _) e = differ-only image _ span (zeroed-only span image (fits e))
+      go (Ok _) e = differ-only image _ span (zeroed-only span image (span-fits e))
       go (Err x) e = nothing-written image span
