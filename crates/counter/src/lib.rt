@@ -11,6 +11,7 @@ mod names;
 mod reading;
 mod regions;
 mod text;
+mod three_calls;
 mod windows;
 
 pub use editing::{
@@ -29,6 +30,9 @@ pub use regions::{
     counter_max_region_size,
 };
 pub use text::{counter_list, counter_report};
+pub use three_calls::{
+    counter_move_copy, counter_move_table, counter_resize_copy, counter_resize_table, counter_zero,
+};
 pub use windows::{
     counter_open_file, counter_read, counter_seek_current, counter_seek_end, counter_seek_start,
 };
