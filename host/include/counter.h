@@ -26,8 +26,8 @@
  * to the table's end, or wholly from the table's end on, where it is a used region of its own. All else below the disc end is free. No edit
  * alters the program.
  *
- * words, and for edits and a new master bytes, are working memory. Whatever they held, they are zero afterwards, on refusals too. With too
- * little the call returns 9 (counter_fault and counter_report tell it):
+ * words, and for edits, parts of edits and a new master bytes, are working memory. Whatever they held, they are zero afterwards, on
+ * refusals too. With too little the call returns 9 (counter_fault and counter_report tell it):
  *
  *     words   4 * (n + 2) for an image with n entries (of the new table, if that has more). COUNTER_MOST_WORDS are enough for every image.
  *     bytes   as many as the new table has. No name is shared in it, so it may be larger than the table that is there: 12 for each entry,
@@ -77,6 +77,7 @@ extern "C" {
 #define COUNTER_RECORD_SLOTS (2 + COUNTER_TEAMS * COUNTER_TEAM_SLOTS)
 #define COUNTER_UNIT_SLOTS 2
 #define COUNTER_FAULT_SLOTS 4
+#define COUNTER_SPAN_SLOTS 2
 
 /* ---- whose a used region is, in the slots of counter_fault: a file's by its number, from 1 on */
 
@@ -128,6 +129,7 @@ static inline const char *counter_cause(uint32_t number)
         "new table above the maximum",
         "taken bytes above the team's limit",
         "free bytes below the other teams' shares",
+        "span to be zeroed not wholly free",
     };
     return number < sizeof causes / sizeof causes[0] ? causes[number] : NULL;
 }
@@ -324,6 +326,39 @@ uint32_t counter_fill_file(uint8_t *image, size_t image_len, uint32_t *words, si
 /* Writes the table anew, with no name shared. */
 uint32_t counter_rewrite(uint8_t *image, size_t image_len, uint32_t *words, size_t words_len, uint8_t *bytes, size_t bytes_len,
     uint32_t record[COUNTER_RECORD_SLOTS], uint32_t team);
+
+/* ---- parts of edits: a move or a resize in three calls, for a station that may lose its drive between two of them. Each opens the image
+ * and makes all its tests before it writes. Each writes its own part of what the single edit writes, and no other; with a number other than
+ * 0 it writes nothing.
+ *
+ * In this order, of an edit that is accepted, with the same arguments and then the span that the second gave, each on the image that the one
+ * before left, record and team too: the second and the third are accepted, and image and record are at last those of counter_move_file or
+ * counter_resize_file, every byte and every slot. After the first the image opens with as many words, to the same tree, with every file's
+ * bytes; after the second to the new tree, with every file as the single edit gives it. Nothing is promised of a cut inside a call.
+ *
+ * Any of them may be called at any time: a second call that no first one came before writes its part all the same. */
+
+/* The copy: writes the bytes that file `number` keeps at its new place; nothing where it stays where it is. Refused exactly where
+ * counter_move_file or counter_resize_file is, with the same number: all their tests are made, the last three too. The record is only
+ * read. */
+uint32_t counter_move_copy(uint8_t *image, size_t image_len, uint32_t *words, size_t words_len, uint8_t *bytes, size_t bytes_len,
+    const uint32_t record[COUNTER_RECORD_SLOTS], uint32_t team, uint32_t number, uint32_t new_offset);
+uint32_t counter_resize_copy(uint8_t *image, size_t image_len, uint32_t *words, size_t words_len, uint8_t *bytes, size_t bytes_len,
+    const uint32_t record[COUNTER_RECORD_SLOTS], uint32_t team, uint32_t number, uint32_t new_size);
+
+/* The table: makes the same tests again, on the image as it is now. Writes the new table, zeros up to the old one's end if that is further
+ * on, and the FST size, four bytes; the record comes back as from the single edit. span[2]: offset and size in bytes of what is left to be
+ * zeroed, the place that the file left or the end that it lost; 0 and 0 where that has no byte, as of a file that grows where it is, of an
+ * empty one that is moved, and of a resize to the present size, which writes nothing. With a number other than 0 image, record and span
+ * are as they were. */
+uint32_t counter_move_table(uint8_t *image, size_t image_len, uint32_t *words, size_t words_len, uint8_t *bytes, size_t bytes_len,
+    uint32_t record[COUNTER_RECORD_SLOTS], uint32_t team, uint32_t number, uint32_t new_offset, uint32_t span[COUNTER_SPAN_SLOTS]);
+uint32_t counter_resize_table(uint8_t *image, size_t image_len, uint32_t *words, size_t words_len, uint8_t *bytes, size_t bytes_len,
+    uint32_t record[COUNTER_RECORD_SLOTS], uint32_t team, uint32_t number, uint32_t new_size, uint32_t span[COUNTER_SPAN_SLOTS]);
+
+/* The zeros: writes 0 into `size` bytes from `offset` on. 29 if not each of them is free and below the disc end (the end is a whole number,
+ * and never wraps); the image then is as it was. With size 0 any offset is accepted. It takes no bytes, no record and no team. */
+uint32_t counter_zero(uint8_t *image, size_t image_len, uint32_t *words, size_t words_len, uint32_t offset, uint32_t size);
 
 /* ---- a new master */
 

@@ -264,6 +264,65 @@ unsafe extern "C" {
         team: u32,
     ) -> u32;
 
+    pub fn counter_move_copy(
+        image: *mut u8,
+        image_len: usize,
+        words: *mut u32,
+        words_len: usize,
+        bytes: *mut u8,
+        bytes_len: usize,
+        record: *const [u32; RECORD_WORDS],
+        team: u32,
+        number: u32,
+        new_offset: u32,
+    ) -> u32;
+    pub fn counter_resize_copy(
+        image: *mut u8,
+        image_len: usize,
+        words: *mut u32,
+        words_len: usize,
+        bytes: *mut u8,
+        bytes_len: usize,
+        record: *const [u32; RECORD_WORDS],
+        team: u32,
+        number: u32,
+        new_size: u32,
+    ) -> u32;
+    pub fn counter_move_table(
+        image: *mut u8,
+        image_len: usize,
+        words: *mut u32,
+        words_len: usize,
+        bytes: *mut u8,
+        bytes_len: usize,
+        record: *mut [u32; RECORD_WORDS],
+        team: u32,
+        number: u32,
+        new_offset: u32,
+        span: *mut [u32; 2],
+    ) -> u32;
+    pub fn counter_resize_table(
+        image: *mut u8,
+        image_len: usize,
+        words: *mut u32,
+        words_len: usize,
+        bytes: *mut u8,
+        bytes_len: usize,
+        record: *mut [u32; RECORD_WORDS],
+        team: u32,
+        number: u32,
+        new_size: u32,
+        span: *mut [u32; 2],
+    ) -> u32;
+    pub fn counter_zero(
+        image: *mut u8,
+        image_len: usize,
+        words: *mut u32,
+        words_len: usize,
+        offset: u32,
+        size: u32,
+    ) -> u32;
+
     pub fn counter_master(
         image: *mut u8,
         image_len: usize,

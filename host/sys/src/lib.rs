@@ -1,6 +1,6 @@
 //! libcounter.a from Rust: the C functions (`ffi`), and beside each a call on slices.
 //!
-//! A call answers `Ok` or the number of the cause (1 to 28). Working memory is lent in a `Memory`;
+//! A call answers `Ok` or the number of the cause (1 to 29). Working memory is lent in a `Memory`;
 //! it is zero after every call, whatever it held.
 
 pub mod ffi;
@@ -553,6 +553,84 @@ pub fn rewrite(
     record.through(|r| unsafe {
         call!(counter_rewrite(mut image, mut memory.words, mut memory.bytes, = r, = team))
     })
+}
+
+// A move or a resize in three calls -------------------------------------------------------
+
+/// The copy: makes all tests of the move, and writes the bytes at their new place. The record is only read.
+pub fn move_copy(
+    image: &mut [u8],
+    memory: &mut Memory,
+    record: &Record,
+    team: u32,
+    number: u32,
+    new_offset: u32,
+) -> Answer<()> {
+    let slots = record.slots();
+    told(unsafe {
+        call!(counter_move_copy(
+            mut image, mut memory.words, mut memory.bytes, = &slots, = team, = number, = new_offset
+        ))
+    })
+}
+
+/// The same of a resize.
+pub fn resize_copy(
+    image: &mut [u8],
+    memory: &mut Memory,
+    record: &Record,
+    team: u32,
+    number: u32,
+    new_size: u32,
+) -> Answer<()> {
+    let slots = record.slots();
+    told(unsafe {
+        call!(counter_resize_copy(
+            mut image, mut memory.words, mut memory.bytes, = &slots, = team, = number, = new_size
+        ))
+    })
+}
+
+/// The table: makes the same tests again, and writes the table. The answer is the span that is left to be zeroed;
+/// offset and size 0 where there is none.
+pub fn move_table(
+    image: &mut [u8],
+    memory: &mut Memory,
+    record: &mut Record,
+    team: u32,
+    number: u32,
+    new_offset: u32,
+) -> Answer<Region> {
+    let mut span = [0; 2];
+    record.through(|r| unsafe {
+        call!(counter_move_table(
+            mut image, mut memory.words, mut memory.bytes, = r, = team, = number, = new_offset, = &mut span
+        ))
+    })?;
+    Ok(Region { offset: span[0], size: span[1] })
+}
+
+/// The same of a resize.
+pub fn resize_table(
+    image: &mut [u8],
+    memory: &mut Memory,
+    record: &mut Record,
+    team: u32,
+    number: u32,
+    new_size: u32,
+) -> Answer<Region> {
+    let mut span = [0; 2];
+    record.through(|r| unsafe {
+        call!(counter_resize_table(
+            mut image, mut memory.words, mut memory.bytes, = r, = team, = number, = new_size, = &mut span
+        ))
+    })?;
+    Ok(Region { offset: span[0], size: span[1] })
+}
+
+/// The zeros: over the span, if every byte of it is free. An empty one may lie anywhere.
+pub fn zero(image: &mut [u8], words: &mut [u32], span: Region) -> Answer<()> {
+    told(unsafe { call!(counter_zero(mut image, mut words, = span.offset, = span.size)) })
 }
 
 // A new master ----------------------------------------------------------------------------
