@@ -428,13 +428,22 @@ fn the_guides_station_refuses_and_loses_a_note() {
     let (before, edit) = place_edits(&station.temp).swap_remove(0);
     let (after, _) = whole(&before, None, edit).unwrap();
     // A refusal leaves all as it was.
-    for (what, to) in [("move", edit.2 + 1 - 0x8123), ("move", 0), ("resize", u32::MAX)] {
-        let refused = (what, edit.1, to);
-        station.begin(&before, None);
-        let number = whole(&before, None, refused);
-        assert_eq!(station.run(refused, None).status, number.map(|_| 0).unwrap_or_else(|n| n as i32));
-        assert_eq!(fs::read(&station.image).unwrap() == before, !station.record.exists());
-        assert!(!station.note.exists());
+    let file = edit.1;
+    let full = Record { teams: [Team { taken: 1, ..Team::default() }; TEAMS], ..of_teams() };
+    for (refused, record, number) in [
+        (("move", 99, 0), None, 15),
+        (("move", 0, 0), None, 16),
+        (("move", file, 0x8_0001), None, 20),
+        (("move", file, 0x10_0000), None, 21),
+        (("resize", file, u32::MAX), None, 21),
+        (("resize", file, 0x8124), Some(full), 27),
+    ] {
+        assert_eq!(whole(&before, record, refused).err(), Some(number));
+        station.begin(&before, record.as_ref());
+        let run = station.run(refused, None);
+        assert_eq!(run.status, number as i32, "{}", run.err);
+        assert!(fs::read(&station.image).unwrap() == before && !station.note.exists());
+        assert_eq!(fs::read(&station.record).ok(), record.as_ref().map(noted));
     }
     // Another edit waits.
     for cut in [NOTE_SYNCED, TABLE_SYNCED] {
