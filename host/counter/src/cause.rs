@@ -2,7 +2,7 @@
 //! library's `Display` (crates/refusal), and counter.h has them for C; tests/c.rs holds the three together.
 
 /// The cause with number n is the n-th.
-pub const CAUSES: [&str; 28] = [
+pub const CAUSES: [&str; 29] = [
     "header field past the image",
     "Wii magic",
     "not GameCube magic",
@@ -31,6 +31,7 @@ pub const CAUSES: [&str; 28] = [
     "new table above the maximum",
     "taken bytes above the team's limit",
     "free bytes below the other teams' shares",
+    "span to be zeroed not wholly free",
 ];
 
 /// None where no call answers the number.

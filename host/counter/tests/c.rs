@@ -4,7 +4,7 @@ mod support;
 
 use counter_sys::{
     CLUSTER_SIZE, MOST_ENTRIES, MOST_LEVELS, MOST_PATH, MOST_REGIONS, MOST_TABLE, MOST_TEXT,
-    MOST_WORDS,
+    MOST_WORDS, Memory, RECORD_WORDS, Record, TEAMS, Team,
 };
 use std::fs;
 use std::path::{Path, PathBuf};
@@ -42,18 +42,15 @@ fn compile(compiler: &str, args: &[&str]) -> bool {
 
 /// A program over the library.
 fn over_library(source: &Path, temp: &Temp) -> PathBuf {
+    linked(&[source.to_str().unwrap()], temp)
+}
+
+/// The same, of several sources and with options of the linker.
+fn linked(sources: &[&str], temp: &Temp) -> PathBuf {
     let out = temp.at("program");
     let folder = library();
-    let args = [
-        "-std=c99",
-        source.to_str().unwrap(),
-        "-L",
-        folder.to_str().unwrap(),
-        "-lcounter",
-        "-o",
-        out.to_str().unwrap(),
-    ];
-    compile("cc", &args);
+    let rest = ["-L", folder.to_str().unwrap(), "-lcounter", "-o", out.to_str().unwrap()];
+    compile("cc", &[&["-std=c99"], sources, &rest].concat());
     out
 }
 
@@ -215,11 +212,264 @@ int main(void)
     assert_eq!(told(&bytes), (24, "7 bytes at 7\n".into()));
 }
 
+/// Ends the process before or behind one of the guide's program's writes to a disk: CUT counts both of each.
+const CUTTING: &str = r#"
+#include <stdio.h>
+#include <stdlib.h>
+int __real_msync(void *start, size_t len, int how);
+int __real_fsync(int file);
+int __real_rename(const char *from, const char *to);
+static int passed(int answer)
+{
+    static int count;
+    const char *cut = getenv("CUT");
+    if (cut != NULL && atoi(cut) == count++)
+        _Exit(99);
+    return answer;
+}
+int __wrap_msync(void *start, size_t len, int how)
+{
+    passed(0);
+    return passed(__real_msync(start, len, how));
+}
+int __wrap_fsync(int file)
+{
+    passed(0);
+    return passed(__real_fsync(file));
+}
+int __wrap_rename(const char *from, const char *to)
+{
+    passed(0);
+    return passed(__real_rename(from, to));
+}
+"#;
+
+// The guide's program syncs the copy, the note, the table and the zeros, and then renames the note.
+const COPY_SYNCED: usize = 1;
+const NOTE_WRITTEN: usize = 2;
+const NOTE_SYNCED: usize = 3;
+const TABLE_WRITTEN: usize = 4;
+const TABLE_SYNCED: usize = 5;
+const ZEROS_SYNCED: usize = 7;
+const DONE: usize = 9;
+
+/// The guide's program, with the files that it works on.
+struct Station {
+    temp: Temp,
+    program: PathBuf,
+    image: PathBuf,
+    record: PathBuf,
+    note: PathBuf,
+}
+
+impl Station {
+    fn new() -> Station {
+        let temp = Temp::in_memory();
+        let page = Path::new(env!("CARGO_MANIFEST_DIR")).join("../../docs/GUIDE.md");
+        let page = fs::read_to_string(page).unwrap();
+        let blocks: Vec<&str> = page.split("\n```c\n").skip(1).collect();
+        assert_eq!(blocks.len(), 1);
+        let text = blocks[0].split_once("\n```\n").unwrap().0.to_string() + "\n";
+        let source = temp.write("station.c", text.as_bytes());
+        let cutting = temp.write("cutting.c", CUTTING.as_bytes());
+        let wrap = "-Wl,--wrap=msync,--wrap=fsync,--wrap=rename";
+        let sources = [source.to_str().unwrap(), cutting.to_str().unwrap(), wrap];
+        let program = linked(&sources, &temp);
+        let [image, record, note] = ["disc.iso", "record", "note"].map(|name| temp.at(name));
+        Station { temp, program, image, record, note }
+    }
+
+    /// As before the edit.
+    fn begin(&self, image: &[u8], record: Option<&Record>) {
+        fs::write(&self.image, image).unwrap();
+        let _ = (fs::remove_file(&self.note), fs::remove_file(&self.record));
+        if let Some(record) = record {
+            fs::write(&self.record, noted(record)).unwrap();
+        }
+    }
+
+    fn run(&self, edit: (&str, u32, u32), cut: Option<usize>) -> Run {
+        let (what, file, to) = edit;
+        let mut command = Command::new(&self.program);
+        command.args([&self.image, &self.record, &self.note]);
+        command.args([what, &file.to_string(), &to.to_string()]).env_remove("CUT");
+        if let Some(cut) = cut {
+            command.env("CUT", cut.to_string());
+        }
+        command.output().unwrap().into()
+    }
+
+    /// The record, as it is kept.
+    fn kept(&self) -> [u32; RECORD_WORDS] {
+        let bytes = fs::read(&self.record).unwrap();
+        let words: Vec<u32> =
+            bytes.chunks(4).map(|word| u32::from_ne_bytes(word.try_into().unwrap())).collect();
+        assert_eq!(words.len(), 3 + RECORD_WORDS + 2);
+        words[3..3 + RECORD_WORDS].try_into().unwrap()
+    }
+
+    /// Nothing but free space tells the image from this one: not tree, header or table, and no file's bytes.
+    fn reads_as(&self, wanted: &[u8], what: &str) {
+        let wanted = self.temp.write("wanted.iso", wanted);
+        let run = on("compare", &wanted, &[self.image.to_str().unwrap()]);
+        assert_eq!(run.status, 0, "{what}: {}{}", run.out, run.err);
+        assert_eq!(done("list", &self.image, &[]), done("list", &wanted, &[]), "{what}");
+    }
+}
+
+/// A record in the form of the guide's program.
+fn noted(record: &Record) -> Vec<u8> {
+    let words = [&[0; 3], &record.slots()[..], &[0; 2]].concat();
+    words.into_iter().flat_map(u32::to_ne_bytes).collect()
+}
+
+/// The single call, with the record that the guide's program begins with where it has none.
+fn whole(
+    image: &[u8],
+    record: Option<Record>,
+    edit: (&str, u32, u32),
+) -> Result<(Vec<u8>, Record), u32> {
+    let (mut words, mut bytes) = (vec![0; MOST_WORDS], vec![0; MOST_TABLE]);
+    let mut memory = Memory { words: &mut words, bytes: &mut bytes };
+    let mut limits = [0; TEAMS];
+    limits[0] = u32::MAX;
+    let made = counter_sys::make_record(image, &mut memory, &limits, &[0; TEAMS]);
+    let (mut image, mut record) = (image.to_vec(), record.unwrap_or(made.unwrap()));
+    let (what, file, to) = edit;
+    let call = if what == "move" { counter_sys::move_file } else { counter_sys::resize_file };
+    call(&mut image, &mut memory, &mut record, 0, file, to)?;
+    Ok((image, record))
+}
+
+/// Teams that have edited before, and a record whose first numbers are not the image's.
+fn of_teams() -> Record {
+    let mut record = Record { used: 0x1_0000, largest: 7, teams: Default::default() };
+    record.teams[0] = Team { limit: 0x10_0000, share: 100, taken: 0x1_0000, edits: 5 };
+    record.teams[15] = Team { limit: 0, share: 300, taken: 200, edits: u32::MAX };
+    record
+}
+
+/// Moves, growth elsewhere and in place, shrinks, empty files, the present size; and a table that gets shorter.
+fn place_edits(temp: &Temp) -> Vec<(Vec<u8>, (&'static str, u32, u32))> {
+    let usual = usual_master(temp);
+    let number = |path: &str| json("find", &usual, &[path]).at("entry").number() as u32;
+    let edits = [
+        ("move", "audio/theme.adp", 0x19_0000),
+        ("move", "audio/silence.adp", 0x7_0000),
+        ("resize", "audio/se/se000.dsp", 0x2000),
+        ("resize", "opening.bnr", 0x3000),
+        ("resize", "movie/intro.thp", 0x1000),
+        ("resize", "text/fr/msg.bin", 0),
+        ("resize", "text/en/msg.bin", 0x1234),
+    ];
+    let bytes = fs::read(&usual).unwrap();
+    let usual = edits.map(|(what, path, to)| (bytes.clone(), (what, number(path), to)));
+    let mut long = filled_master();
+    put(&mut long, 0x428, 0x30);
+    long[0x45A..0x46F].fill(b'x');
+    let small = [("move", 1, 1536), ("resize", 1, 128), ("resize", 1, 6912)];
+    usual.into_iter().chain(small.map(|edit| (long.clone(), edit))).collect()
+}
+
+#[test]
+fn the_guides_station_goes_on_after_every_cut() {
+    let station = Station::new();
+    for (before, edit) in place_edits(&station.temp) {
+        for record in [None, Some(of_teams())] {
+            let (after, counted) = whole(&before, record, edit).unwrap();
+            let mut synced = before.clone();
+            for cut in 0..=DONE {
+                let cut_there = || {
+                    station.begin(&before, record.as_ref());
+                    let run = station.run(edit, Some(cut));
+                    assert_eq!(run.status, 99, "{edit:?} {cut}: {}", run.err);
+                };
+                cut_there();
+                let image = fs::read(&station.image).unwrap();
+                if [COPY_SYNCED, TABLE_SYNCED, ZEROS_SYNCED].contains(&cut) {
+                    synced = image.clone();
+                }
+                // What was not synced yet is there, or lost; the note may be torn too.
+                let mut left = vec![(image.clone(), cut >= TABLE_WRITTEN, None)];
+                if image != synced {
+                    left.push((synced.clone(), cut > TABLE_SYNCED, None));
+                }
+                if cut == NOTE_WRITTEN {
+                    left.extend([0, 100].map(|len| (image.clone(), false, Some(len))));
+                }
+                for (image, has_new_table, note) in left {
+                    let what = format!("{edit:?} {cut} {has_new_table} {note:?}");
+                    cut_there();
+                    fs::write(&station.image, &image).unwrap();
+                    if let Some(len) = note {
+                        let note = fs::OpenOptions::new().write(true).open(&station.note).unwrap();
+                        note.set_len(len).unwrap();
+                    }
+                    station.reads_as(if has_new_table { &after } else { &before }, &what);
+                    if cut < DONE {
+                        let run = station.run(edit, None);
+                        assert_eq!(run.status, 0, "{what}: {}", run.err);
+                    }
+                    assert!(fs::read(&station.image).unwrap() == after, "{what}");
+                    assert_eq!(station.kept(), counted.slots(), "{what}");
+                    assert!(!station.note.exists(), "{what}");
+                }
+            }
+            // It has no other step.
+            station.begin(&before, record.as_ref());
+            assert_eq!(station.run(edit, Some(DONE + 1)).status, 0);
+        }
+    }
+}
+
+#[test]
+fn the_guides_station_refuses_and_loses_a_note() {
+    let station = Station::new();
+    let (before, edit) = place_edits(&station.temp).swap_remove(0);
+    let (after, _) = whole(&before, None, edit).unwrap();
+    // A refusal leaves all as it was.
+    let file = edit.1;
+    let full = Record { teams: [Team { taken: 1, ..Team::default() }; TEAMS], ..of_teams() };
+    for (refused, record, number) in [
+        (("move", 99, 0), None, 15),
+        (("move", 0, 0), None, 16),
+        (("move", file, 0x8_0001), None, 20),
+        (("move", file, 0x10_0000), None, 21),
+        (("resize", file, u32::MAX), None, 21),
+        (("resize", file, 0x8124), Some(full), 27),
+    ] {
+        assert_eq!(whole(&before, record, refused).err(), Some(number));
+        station.begin(&before, record.as_ref());
+        let run = station.run(refused, None);
+        assert_eq!(run.status, number as i32, "{}", run.err);
+        assert!(fs::read(&station.image).unwrap() == before && !station.note.exists());
+        assert_eq!(fs::read(&station.record).ok(), record.as_ref().map(noted));
+    }
+    // Another edit waits.
+    for cut in [NOTE_SYNCED, TABLE_SYNCED] {
+        station.begin(&before, None);
+        station.run(edit, Some(cut));
+        let image = fs::read(&station.image).unwrap();
+        assert_eq!(station.run(("move", edit.1, edit.2 + 1), None).status, 65);
+        assert!(fs::read(&station.image).unwrap() == image);
+        assert_eq!(station.run(edit, None).status, 0);
+        assert!(fs::read(&station.image).unwrap() == after);
+    }
+    // Without the note the old place keeps its bytes, and nothing else is lost.
+    station.begin(&before, None);
+    station.run(edit, Some(TABLE_SYNCED));
+    let image = fs::read(&station.image).unwrap();
+    fs::remove_file(&station.note).unwrap();
+    assert_eq!(station.run(edit, None).status, 20);
+    assert!(fs::read(&station.image).unwrap() == image && image != after);
+    station.reads_as(&after, "no note");
+}
+
 #[test]
 fn the_header_compiles_alone_as_c_and_as_c_plus_plus() {
     let temp = Temp::new();
     let text = "#include \"counter.h\"\n#include \"counter.h\"\n\
-                int main(void) { return counter_cause(29) != 0 || counter_cause(0) == 0; }\n";
+                int main(void) { return counter_cause(30) != 0 || counter_cause(0) == 0; }\n";
     for (compiler, name, standard) in [
         ("cc", "alone.c", "-std=c99"),
         ("cc", "alone.c", "-std=c17"),

@@ -10,8 +10,9 @@ use support::Temp;
 /// Commands and what they print, from the page's blocks: a line `$ COMMAND`, then its output.
 fn example(page: &str) -> Vec<(String, String)> {
     let mut found: Vec<(String, String)> = Vec::new();
-    for block in page.split("```\n").skip(1).step_by(2).filter(|block| block.starts_with("$ ")) {
-        for line in block.lines() {
+    // Each second piece is a block; one of code has its language in its first line.
+    for block in page.split("```").skip(1).step_by(2).filter(|block| block.starts_with("\n$ ")) {
+        for line in block.lines().skip(1) {
             match (line.strip_prefix("$ "), found.last_mut()) {
                 (Some(command), _) => found.push((command.to_string(), String::new())),
                 (None, Some((_, out))) => out.push_str(&format!("{line}\n")),
