@@ -390,25 +390,35 @@ impl Images {
     }
 }
 
-/// What is claimed of the cuts and of each call's own part, by the bytes that the probe told.
+/// What is claimed of the cuts and of each call's own part, by the bytes behind the copy, the table, the zeros,
+/// and the table alone.
 fn wrong(
+    tree: &Tree,
+    parts: &Parts,
+    before: &[u8],
+    [copied, tabled, zeroed, alone]: [&[u8]; 4],
+) -> Option<&'static str> {
+    if [copied, tabled, zeroed, alone].map(|image| image.len()) != [before.len(); 4] {
+        return Some("the image's length");
+    }
+    parts
+        .wrong_copy(tree, before, copied)
+        .or_else(|| parts.wrong_table(tree, copied, tabled, Some(zeroed)))
+        .or_else(|| parts.wrong_table(tree, before, alone, None))
+}
+
+/// The same by what the probe told.
+fn wrong_as_told(
     tree: &Tree,
     parts: &Parts,
     before: &[u8],
     three: &Three,
     probe: &[String],
 ) -> Option<&'static str> {
-    let image = |at: &At| unhex(probe[at.image].strip_prefix("ok ").unwrap_or(""));
-    let [copied, tabled, zeroed, alone] =
-        [&three.copy, &three.table, &three.zero, &three.alone].map(image);
-    let lengths = [&copied, &tabled, &zeroed, &alone].map(|image| image.len());
-    if lengths != [before.len(); 4] {
-        return Some("the image's length");
-    }
-    parts
-        .wrong_copy(tree, before, &copied)
-        .or_else(|| parts.wrong_table(tree, &copied, &tabled, Some(&zeroed)))
-        .or_else(|| parts.wrong_table(tree, before, &alone, None))
+    let told = [&three.copy, &three.table, &three.zero, &three.alone];
+    let images = told.map(|at| unhex(probe[at.image].strip_prefix("ok ").unwrap_or("")));
+    let [copied, tabled, zeroed, alone] = &images;
+    wrong(tree, parts, before, [copied, tabled, zeroed, alone])
 }
 
 struct Fault {
@@ -488,7 +498,7 @@ impl Run {
             if let Some((what, wanted)) = trouble(at, due, probe) {
                 let parts = group.parts.as_ref().filter(|_| accepted);
                 let why = parts
-                    .and_then(|parts| wrong(tree, parts, &image.image, three, probe))
+                    .and_then(|parts| wrong_as_told(tree, parts, &image.image, three, probe))
                     .filter(|_| what == "the image behind a call");
                 let lines = if is_alone { lines[..lines.len() - 3].to_vec() } else { lines };
                 let fault = Fault {
@@ -579,14 +589,6 @@ impl Run {
             }
             let call = &each.0.call;
             if let Some(parts) = parts.filter(|_| accepted(&each.0)) {
-                // The bytes are the second writing's; what is claimed of them is held by itself.
-                if let Some(what) = wrong(tree, parts, case.image(), &each.1, probe) {
-                    let what = what.into();
-                    let (ours, due) = (String::new(), String::new());
-                    let fault = Fault { what, lines: vec![], call: call.line(), ours, due };
-                    self.report(case, fault);
-                    return None;
-                }
                 self.met(of_parts(tree, parts, call));
             }
             if group.later {
@@ -594,6 +596,17 @@ impl Run {
                     true => "steps: a call of an earlier image, accepted",
                     false => "steps: a call of an earlier image, refused",
                 }]);
+            }
+        }
+        if let Some(parts) = parts {
+            // The bytes are Counter's and the second writing's; what is claimed of them is held by itself.
+            let Images { before, copied, tabled, zeroed, alone } = &images;
+            let bytes = [copied, tabled, zeroed, alone].map(|held| &held.image[..]);
+            if let Some(what) = wrong(tree, parts, &before.image, bytes) {
+                let (ours, due) = (String::new(), String::new());
+                let call = group.each[0].0.call.line();
+                self.report(case, Fault { what: what.into(), lines: vec![], call, ours, due });
+                return None;
             }
         }
         let first = accepted(&group.each[0].0);
