@@ -19,7 +19,7 @@ use std::process::Command;
 const PLACES: usize = 4;
 
 /// The calls that an earlier library is held against.
-const CALLS: [&str; 11] = [
+const CALLS: [&str; 16] = [
     "open",
     "totals",
     "lookup",
@@ -31,7 +31,15 @@ const CALLS: [&str; 11] = [
     "resize_file",
     "fill_file",
     "rewrite",
+    "move_copy",
+    "move_table",
+    "resize_copy",
+    "resize_table",
+    "zero",
 ];
+
+/// What a library moves and zeroes bytes with.
+const MEMORY: [&str; 3] = ["memcpy", "memmove", "memset"];
 
 fn main() {
     original::copy();
@@ -40,6 +48,7 @@ fn main() {
     println!("cargo:rustc-check-cfg=cfg(teams_before)");
     let folder = env::var_os("COUNTER_LIB").expect("set COUNTER_LIB to the folder of libcounter.a");
     four_times("now", &folder);
+    counted(&folder);
     println!("cargo:rerun-if-env-changed=COUNTER_LIB");
     println!("cargo:rerun-if-env-changed=COUNTER_BEFORE");
     if let Some(folder) = env::var_os("COUNTER_BEFORE") {
@@ -93,28 +102,46 @@ fn has_teams(folder: &OsStr) -> bool {
 
 /// Links in `NAME_CALL_0` to `NAME_CALL_3`: `counter_CALL` of the library in `folder`.
 fn four_times(name: &str, folder: &OsStr) {
+    for place in 0..PLACES {
+        copy(
+            &format!("{name}_{place}"),
+            &|call| format!("{name}_{call}_{place}"),
+            folder,
+            16 * place,
+            &[],
+        );
+    }
+}
+
+/// Links in `counted_CALL`, which call `counted_memcpy` in place of memcpy, and so on.
+fn counted(folder: &OsStr) {
+    let words = MEMORY.map(|name| format!("--redefine-sym={name}=counted_{name}"));
+    copy("counted", &|call| format!("counted_{call}"), folder, 0, &words);
+}
+
+/// Links in a copy of the library, with other names for its calls, so many bytes further on.
+fn copy(symbol: &str, named: &dyn Fn(&str) -> String, folder: &OsStr, by: usize, more: &[String]) {
     let out = env::var("OUT_DIR").unwrap();
     let from = Path::new(folder).join("libcounter.a");
     println!("cargo:rerun-if-changed={}", from.display());
     println!("cargo:rustc-link-search=native={out}");
-    for place in 0..PLACES {
-        let symbol = format!("{name}_{place}");
-        let file = |ending: &str| Path::new(&out).join(format!("lib{symbol}.{ending}"));
-        let [script, object, library] = ["ld", "o", "a"].map(file);
-        let text = format!("SECTIONS {{ .text : {{ . = . + {}; *(.text .text.*) }} }}", 16 * place);
-        std::fs::write(&script, text).unwrap();
-        let word = |text: &'static str| OsStr::new(text);
-        let (object, library) = (object.as_os_str(), library.as_os_str());
-        let whole = [word("-r"), word("--whole-archive"), from.as_os_str()];
-        run("ld", &[&whole[..], &[word("-T"), script.as_os_str(), word("-o"), object]].concat());
-        let mut words = vec!["--set-section-alignment=.text=64".to_string()];
-        for call in CALLS {
-            words.push(format!("--redefine-sym=counter_{call}={name}_{call}_{place}"));
-            words.push(format!("--keep-global-symbol={name}_{call}_{place}"));
-        }
-        let words: Vec<&OsStr> = words.iter().map(OsStr::new).collect();
-        run("objcopy", &[&words[..], &[object]].concat());
-        run("ar", &[word("rcs"), library, object]);
-        println!("cargo:rustc-link-lib=static={symbol}");
+    let file = |ending: &str| Path::new(&out).join(format!("lib{symbol}.{ending}"));
+    let [script, object, library] = ["ld", "o", "a"].map(file);
+    let text = format!("SECTIONS {{ .text : {{ . = . + {by}; *(.text .text.*) }} }}");
+    std::fs::write(&script, text).unwrap();
+    let word = |text: &'static str| OsStr::new(text);
+    let (object, library) = (object.as_os_str(), library.as_os_str());
+    let whole = [word("-r"), word("--whole-archive"), from.as_os_str()];
+    run("ld", &[&whole[..], &[word("-T"), script.as_os_str(), word("-o"), object]].concat());
+    let mut words = vec!["--set-section-alignment=.text=64".to_string()];
+    for call in CALLS {
+        let name = named(call);
+        words.push(format!("--redefine-sym=counter_{call}={name}"));
+        words.push(format!("--keep-global-symbol={name}"));
     }
+    words.extend_from_slice(more);
+    let words: Vec<&OsStr> = words.iter().map(OsStr::new).collect();
+    run("objcopy", &[&words[..], &[object]].concat());
+    run("ar", &[word("rcs"), library, object]);
+    println!("cargo:rustc-link-lib=static={symbol}");
 }

@@ -34,6 +34,7 @@ mod places;
 mod program;
 mod record;
 mod sides;
+mod steps;
 
 fn main() {
     let wanted: Vec<String> = std::env::args().skip(1).collect();
@@ -71,6 +72,10 @@ fn main() {
     }
     if runs("record") {
         record::run(&mut misses);
+    }
+    if runs("steps") {
+        steps::run(&mut misses);
+        steps::run_giant(&mut misses);
     }
     if runs("master") {
         master::run(&mut misses);

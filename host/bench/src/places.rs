@@ -159,6 +159,48 @@ edit_before_and_now!(
     now_rewrite_0 now_rewrite_1 now_rewrite_2 now_rewrite_3
 );
 
+at_four_places!(
+    MOVE_COPY:
+    (
+        image: *mut u8, n: usize, words: *mut u32, m: usize, bytes: *mut u8, room: usize,
+        record: *const u32, team: u32, file: u32, to: u32
+    )
+    now_move_copy_0 now_move_copy_1 now_move_copy_2 now_move_copy_3
+);
+
+at_four_places!(
+    MOVE_TABLE:
+    (
+        image: *mut u8, n: usize, words: *mut u32, m: usize, bytes: *mut u8, room: usize,
+        record: *mut u32, team: u32, file: u32, to: u32, span: *mut u32
+    )
+    now_move_table_0 now_move_table_1 now_move_table_2 now_move_table_3
+);
+
+at_four_places!(
+    RESIZE_COPY:
+    (
+        image: *mut u8, n: usize, words: *mut u32, m: usize, bytes: *mut u8, room: usize,
+        record: *const u32, team: u32, file: u32, to: u32
+    )
+    now_resize_copy_0 now_resize_copy_1 now_resize_copy_2 now_resize_copy_3
+);
+
+at_four_places!(
+    RESIZE_TABLE:
+    (
+        image: *mut u8, n: usize, words: *mut u32, m: usize, bytes: *mut u8, room: usize,
+        record: *mut u32, team: u32, file: u32, to: u32, span: *mut u32
+    )
+    now_resize_table_0 now_resize_table_1 now_resize_table_2 now_resize_table_3
+);
+
+at_four_places!(
+    ZERO:
+    (image: *mut u8, n: usize, words: *mut u32, m: usize, offset: u32, size: u32)
+    now_zero_0 now_zero_1 now_zero_2 now_zero_3
+);
+
 /// The time of a call, and the number that it answers.
 fn timed(call: impl FnOnce() -> u32) -> (Duration, u32) {
     let start = Watch::start();
@@ -262,6 +304,26 @@ impl Case {
             Call::Rewrite => call!(REWRITE_BEFORE REWRITE),
             _ => unreachable!(),
         };
+        Edited { time, number, record: Record::of(record) }
+    }
+
+    /// A move or a resize that is accepted, in three calls.
+    pub fn three(&mut self, call: &Call, place: usize) -> Edited {
+        let (copy, table, file, to) = match *call {
+            Call::Move(file, to) => (MOVE_COPY[place], MOVE_TABLE[place], file, to),
+            Call::Resize(file, to) => (RESIZE_COPY[place], RESIZE_TABLE[place], file, to),
+            _ => unreachable!(),
+        };
+        let (zero, mut record, mut span) = (ZERO[place], RECORD.slots(), [0; 2]);
+        let (r, s) = (record.as_mut_ptr(), span.as_mut_ptr());
+        let (image, n) = (self.image.as_mut_ptr(), self.image.len());
+        let (words, m) = (self.words.as_mut_ptr(), self.words.len());
+        let (bytes, room) = (self.bytes.as_mut_ptr(), self.bytes.len());
+        let (time, number) = timed(|| unsafe {
+            copy(image, n, words, m, bytes, room, r, TEAM, file, to)
+                | table(image, n, words, m, bytes, room, r, TEAM, file, to, s)
+                | zero(image, n, words, m, *s, *s.add(1))
+        });
         Edited { time, number, record: Record::of(record) }
     }
 }

@@ -235,7 +235,7 @@ fn file(r: &mut Random, tree: &Tree) -> u32 {
 }
 
 /// Offsets at which something begins or ends.
-fn marks(tree: &Tree) -> Vec<u64> {
+pub fn marks(tree: &Tree) -> Vec<u64> {
     let mut marks = vec![0, 0x440, tree.fst_offset, tree.table_end(), tree.disc_end];
     for (offset, size) in &tree.free {
         marks.extend([*offset, offset + size]);
@@ -469,7 +469,7 @@ pub fn look(r: &mut Random, tree: Option<&Tree>, image: &[u8]) -> Call {
     }
 }
 
-fn move_file(r: &mut Random, tree: &Tree) -> Call {
+pub fn move_file(r: &mut Random, tree: &Tree) -> Call {
     let number = file(r, tree);
     let entry = tree.entries.get(number as usize);
     let (at, size) = entry.map_or((0, 0), |e| (e.offset as u64, e.size as u64));
@@ -492,7 +492,7 @@ fn move_file(r: &mut Random, tree: &Tree) -> Call {
     Call::Move(number, near(r, to))
 }
 
-fn resize_file(r: &mut Random, tree: &Tree) -> Call {
+pub fn resize_file(r: &mut Random, tree: &Tree) -> Call {
     let number = file(r, tree);
     let entry = tree.entries.get(number as usize);
     let (at, size) = entry.map_or((0, 0), |e| (e.offset as u64, e.size as u64));

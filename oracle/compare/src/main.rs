@@ -18,6 +18,8 @@ mod records;
 mod rules;
 mod run;
 mod sample;
+mod step_rules;
+mod steps;
 mod suites;
 mod teams;
 mod wish_rules;
@@ -29,9 +31,9 @@ use sample::Sample;
 use std::process::exit;
 use std::time::Instant;
 
-const SUITES: [&str; 12] = [
-    "limits", "numbers", "fills", "records", "teams", "maxima", "programs", "names", "tables",
-    "trees", "wishes", "random",
+const SUITES: [&str; 13] = [
+    "limits", "numbers", "fills", "records", "teams", "steps", "maxima", "programs", "names",
+    "tables", "trees", "wishes", "random",
 ];
 
 struct Options {
@@ -191,6 +193,7 @@ fn main() {
             "fills" => suites::fills(&mut run),
             "records" => records::records(&mut run),
             "teams" => teams::teams(&mut run, options.seed, options.images),
+            "steps" => steps::steps(&mut run, options.seed, options.images),
             "maxima" => maxima::maxima(&mut run),
             "programs" => programs::programs(&mut run),
             "names" => names::names(&mut run),

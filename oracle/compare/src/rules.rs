@@ -26,7 +26,7 @@ pub fn set_word(image: &mut [u8], at: usize, value: u32) {
     image[at..at + 4].copy_from_slice(&value.to_be_bytes());
 }
 
-#[derive(Clone, Debug)]
+#[derive(Clone, Debug, PartialEq)]
 pub struct Entry {
     pub directory: bool,
     pub name: Vec<u8>,
@@ -38,7 +38,7 @@ pub struct Entry {
 }
 
 /// An image that opens.
-#[derive(Clone, Debug)]
+#[derive(Clone, Debug, PartialEq)]
 pub struct Tree {
     pub entries: Vec<Entry>,
     pub fst_offset: u64,

@@ -24,7 +24,7 @@ use std::path::{Path, PathBuf};
 use std::rc::Rc;
 
 /// Images that are under way at a time.
-const WAVE: usize = 96;
+pub const WAVE: usize = 96;
 
 /// Calls that look at a random image, and edits of it.
 const LOOKS: usize = 14;
@@ -77,14 +77,14 @@ pub struct Run {
 
 /// One image under way.
 pub struct Case {
-    r: Random,
+    pub r: Random,
     /// For records and maxima, so that all else stays the same.
-    aside: Random,
+    pub aside: Random,
     image: Vec<u8>,
     /// What opening says by the rules, however many words are lent.
-    opened: Result<Tree, Refusal>,
+    pub opened: Result<Tree, Refusal>,
     odd: Option<Class>,
-    name: String,
+    pub name: String,
     /// The program as it was at first: its offset and its bytes.
     program: Option<(usize, Vec<u8>)>,
     /// Kept where a list of edits is made, of an image that opens.
@@ -147,6 +147,13 @@ impl Case {
         self.image
     }
 
+    /// The image is now another one.
+    pub fn become_image(&mut self, image: Vec<u8>) {
+        self.opened = rules::open(&image, usize::MAX);
+        self.image = image;
+        self.find_others();
+    }
+
     fn find_others(&mut self) {
         let Ok(tree) = &self.opened else { return };
         (self.others, self.mixed) =
@@ -183,7 +190,7 @@ impl Case {
     }
 
     /// Makes the image the current one on both sides, and saves it.
-    fn load(&self, lines: &mut Batch, path: &Path) {
+    pub fn load(&self, lines: &mut Batch, path: &Path) {
         fs::write(path, &self.image).unwrap();
         lines.both(format!("image {}", path.display()));
         self.stand_in(lines);
@@ -199,7 +206,7 @@ impl Case {
 
     /// A third of the images as they are, which state any number, a third without a maximum, and a third
     /// with one that counts.
-    fn with_maximum(mut self) -> Self {
+    pub fn with_maximum(mut self) -> Self {
         let kind = self.aside.below(3);
         if kind > 0 && self.image.len() >= 0x440 {
             self.states = kind == 1;
@@ -215,7 +222,7 @@ impl Case {
     }
 
     /// States another maximum, for which 26 is just due for this edit or just not, on both sides.
-    fn state_for(&mut self, lines: &mut Batch, call: &Call) {
+    pub fn state_for(&mut self, lines: &mut Batch, call: &Call) {
         let Ok(tree) = &self.opened else { return };
         let maximum = maxima::beside(&mut self.aside, tree, call);
         self.state(maximum);
@@ -237,7 +244,7 @@ impl Case {
         (image, opened)
     }
 
-    fn opened_with(&self, words: usize) -> Result<Tree, Refusal> {
+    pub fn opened_with(&self, words: usize) -> Result<Tree, Refusal> {
         match &self.opened {
             Ok(tree) if words >= 4 * (tree.entries.len() + 2) => self.opened.clone(),
             _ => rules::open(&self.image, words),
@@ -281,7 +288,7 @@ impl Case {
     }
 
     /// How much memory to lend for a call: often just enough, sometimes one too little.
-    fn lend(&mut self, call: &Call) -> (usize, usize) {
+    pub fn lend(&mut self, call: &Call) -> (usize, usize) {
         let r = &mut self.r;
         let Ok(tree) = &self.opened else {
             let count = match self.image.get(0x440..0x44c) {
@@ -322,18 +329,18 @@ impl Case {
 /// What an edit takes: a record that is made of the image as it is, or set. Either way it holds these
 /// numbers.
 #[derive(Clone, Copy)]
-struct Take {
+pub struct Take {
     account: Account,
     made: bool,
 }
 
 impl Take {
-    fn set(account: Account) -> Self {
+    pub fn set(account: Account) -> Self {
         Self { account, made: false }
     }
 
     /// The command.
-    fn line(&self) -> String {
+    pub fn line(&self) -> String {
         let record = &self.account.record;
         if !self.made {
             return format!("set_record {}", record.words());
@@ -346,29 +353,29 @@ impl Take {
 
 /// What an edit took, and where in the batch the record is told, before it and behind it.
 #[derive(Clone, Copy)]
-struct Taken {
-    account: Account,
+pub struct Taken {
+    pub account: Account,
     made: bool,
     before: usize,
     after: usize,
 }
 
 /// A call that was asked, and where in the batch its answers are.
-struct Asked {
-    case: usize,
-    call: Call,
-    words: usize,
-    bytes: usize,
-    probe: usize,
+pub struct Asked {
+    pub case: usize,
+    pub call: Call,
+    pub words: usize,
+    pub bytes: usize,
+    pub probe: usize,
     oracle: usize,
     twin: Option<usize>,
-    taken: Option<Taken>,
+    pub taken: Option<Taken>,
     /// Asked once more with another record; the list goes on from the other one.
     again: bool,
     /// The original's hash after an edit that it was not told a place for.
     alone: Option<usize>,
     /// Hashes after an edit: Counter's; the original's, as it is and with the game name put back.
-    hashes: Option<(usize, usize, usize)>,
+    pub hashes: Option<(usize, usize, usize)>,
     /// The whole images after an edit, on both sides, where the original's has stand-ins.
     whole: Option<(usize, usize)>,
     peek: usize,
@@ -409,7 +416,7 @@ impl Asked {
 }
 
 /// Where in the batch these are: total, used total, free regions, and the program's bytes.
-struct Program {
+pub struct Program {
     total: usize,
     used: usize,
     free: usize,
@@ -768,7 +775,13 @@ impl Run {
     }
 
     /// The answers to one call, held to the verdict; true if all is well.
-    fn hold(&mut self, case: &Case, asked: &Asked, probe: &[String], oracle: &[String]) -> bool {
+    pub fn hold(
+        &mut self,
+        case: &Case,
+        asked: &Asked,
+        probe: &[String],
+        oracle: &[String],
+    ) -> bool {
         match trouble(case, asked, probe, oracle) {
             Ok(verdict) => {
                 self.count(&asked.call, &verdict);
@@ -1143,7 +1156,7 @@ fn numbers_of(answer: &str) -> Vec<u64> {
 }
 
 /// Commands that make an image.
-fn image_lines(image: &[u8]) -> Vec<String> {
+pub fn image_lines(image: &[u8]) -> Vec<String> {
     let mut lines = vec!["size 0".to_string(), format!("size {}", image.len())];
     let mut at = 0;
     while at < image.len() {
@@ -1218,7 +1231,7 @@ fn ask_look_with(
 
 /// The edit `asked` once more, with a record at the boundaries of 27, 28 and 25. The original's answers
 /// are those to `asked`, and so is its new image.
-fn ask_again(lines: &mut Batch, case: &mut Case, asked: &Asked) -> Asked {
+pub fn ask_again(lines: &mut Batch, case: &mut Case, asked: &Asked) -> Asked {
     let (call, memory) = (asked.call.clone(), [asked.words, asked.bytes]);
     let account = match &case.opened {
         Ok(tree) if case.aside.chance(20) => records::beside(&mut case.aside, tree, &call),
@@ -1238,7 +1251,7 @@ fn ask_again(lines: &mut Batch, case: &mut Case, asked: &Asked) -> Asked {
     Asked { taken, again: true, hashes, whole, peek, ..again }
 }
 
-fn ask_edit_with(
+pub fn ask_edit_with(
     lines: &mut Batch,
     i: usize,
     case: &mut Case,
