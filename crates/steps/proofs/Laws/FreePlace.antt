@@ -58,7 +58,7 @@ module _ (image image' : List ℕ) (o : Opened image) (r : DiscRegion) (f : Free
   low_same : (i : ℕ) → i < table_end image → get_or image' i 0 ≡ get_or image i 0
   low_same i h = d.same i (λ g. omega (arith, (f i g).0))
 
-  pub places_same : (j : ℕ) → SameIn image image' (region (places_in image) j)
+  places_same : (j : ℕ) → SameIn image image' (region (places_in image) j)
   places_same j i h = d.same i (λ g. (f i g).1 j h)
 
   pub field-same : (at : ℕ) → at + 4 ≤ 0x440 → be32 image' at ≡ be32 image at
@@ -68,7 +68,7 @@ module _ (image image' : List ℕ) (o : Opened image) (r : DiscRegion) (f : Free
   pub program-free : ProgramKept image image'
   program-free = program-spared image image' o d.len (λ i h. low_same i (omega (arith, o.bounds.after-header))) (λ i h g. low_same i (omega arith)) (places_same 0)
 
-  pub alike-free : Alike image image'
+  alike-free : Alike image image'
   alike-free = record {
     len = d.len;
     field = λ at h. field-same at (⊎_elim (λ z. omega arith) (λ z. z.1) h);
@@ -76,7 +76,7 @@ module _ (image image' : List ℕ) (o : Opened image) (r : DiscRegion) (f : Free
     program = program-free.program;
   }
 
-  -- LAW: the same tree, the same free regions, as many bytes used, the same maximum; and it opens with the same memory
+  -- LAW: the same tree, the same free regions, as many bytes used; and it opens with the same memory
   pub tree_free : nodes_in image' ≡ nodes_in image
   tree_free = tree-same image image' alike-free o
 
@@ -113,7 +113,7 @@ module _ (image image' : List ℕ) (o : Opened image) (r : DiscRegion) (f : Free
   unfolding used_in regions_behind_table program_in
   used-in-free = rw (tree_free, field-same 0x424 (omega arith), field-same 0x428 (omega arith), program-free.program)
 
-  -- LAW: what every test sees
+  -- LAW: the same disc, so every edit comes to the same plan, and every test of it says the same
   pub disc-free : disc_of image' ≡ disc_of image
   disc-free =
       let f : fst_offset image' ≡ fst_offset image = field-same 0x424 (omega arith) in

@@ -29,17 +29,18 @@ module _ (image : List ℕ) (r : DiscRegion) where
       ends : 0 < r.size → r.offset + r.size ≤ disc_end image
       ends z = omega (arith, (f (r.offset + r.size - 1) (is_inside-in r (r.offset + r.size - 1) (omega arith) (omega arith))).0)
 
-  -- LAW: and only then; it ends on the disc, if it has a byte
-  pub reaches-end : 0 < r.size → r.size ≤ max_region_size r.offset 0 (free_space_of image) → r.offset + r.size ≤ disc_end image
-  reaches-end z h = (place-free (disc_end image) (used_in image) r.offset r.size z h).0
-
-  pub reaches-free : r.size ≤ max_region_size r.offset 0 (free_space_of image) → IsWhollyFree image r
+  -- LAW: and only then
+  reaches-free : r.size ≤ max_region_size r.offset 0 (free_space_of image) → IsWhollyFree image r
   reaches-free h i e =
       let a : r.offset ≤ i = is_inside-from r i e in
       let b : i < r.offset + r.size = is_inside-to r i e in
       let p = place-free (disc_end image) (used_in image) r.offset r.size (omega arith) h in
       let q : r.offset + (i - r.offset) ≡ i = omega arith in
       (omega (arith, p.0), rw q at (p.1 (i - r.offset) (omega arith)))
+
+  -- and then it ends on the disc, if it has a byte
+  pub reaches-end : 0 < r.size → r.size ≤ max_region_size r.offset 0 (free_space_of image) → r.offset + r.size ≤ disc_end image
+  reaches-end z h = (place-free (disc_end image) (used_in image) r.offset r.size z h).0
 
   -- LAW: a place that ends on the disc is wholly free, if no byte of it is the table's, the program's or a file's
   pub wholly-free : FreeAt image r → r.offset + r.size ≤ disc_end image → IsWhollyFree image r
