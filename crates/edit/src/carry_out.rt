@@ -23,8 +23,10 @@ fn commit(image: &mut [u8], bytes: &[u8], fst_offset: usize, fst_size: usize, si
 
 // The table over the one that the image has.
 pub(crate) fn write_table(image: &mut [u8], bytes: &[u8], size: usize)
-    requires { TableFits (length image.old) (length bytes.now) (fst_offset image.old) (fst_size image.old) size }
-    ensures { image.new ≡ image_with_table (fst_offset image.old) (fst_size image.old) (span bytes.now 0 size) image.old }
+    requires { let start = fst_offset image.old in
+        TableFits (length image.old) (length bytes.now) start (fst_size image.old) size }
+    ensures { let start = fst_offset image.old in
+        image.new ≡ image_with_table start (fst_size image.old) (span bytes.now 0 size) image.old }
 {
     let fst_offset = header::fst_offset(image) as usize;
     let fst_size = header::fst_size(image) as usize;

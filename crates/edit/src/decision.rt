@@ -2,7 +2,8 @@
 
 ghost use Rattle.std.specs.Prelude.{◌≡◌, length};
 ghost use Rattle.edit.specs.Inner.Decision.{CanCarry, decision_number, carried_answer, carried_image};
-ghost use Rattle.edit.specs.Inner.Decision.{carried_verdict, CanCopy, copied_by, CanTable, tabled_by, lost_by};
+ghost use Rattle.edit.specs.Inner.Decision.{carried_verdict, CanCopy, copied_by};
+ghost use Rattle.edit.specs.Inner.Decision.{CanTable, tabled_by, lost_by};
 
 use crate::carry_out;
 use refusal::{Refusal, Verdict};
@@ -112,15 +113,18 @@ pub fn finish_copy(image: &mut [u8], decided: Result<Decision, Refusal>) -> Verd
 {
     if let Decision::Write { writing, .. } = decided? {
         let Writing {
-            old, place, kept, ..
+            old,
+            place,
+            kept,
+            ..
         } = writing;
         carry_out::copy_kept(image, old.offset as usize, place.offset as usize, kept);
     }
     Ok(())
 }
 
-/// Writes the table of a decision, and nothing else, and gives what is left to be zeroed, or hands the refusal
-/// back.
+/// Writes the table of a decision, and nothing else, and gives what is left to be zeroed, or hands the
+/// refusal back.
 pub fn finish_table(
     image: &mut [u8],
     bytes: &[u8],

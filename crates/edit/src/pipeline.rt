@@ -81,8 +81,8 @@ pub fn decide(disc: &OpenDisc<'_>, bytes: &mut [u8], edit: Edit<'_>) -> Result<D
     }
 }
 
-/// What is decided on, once opening, the team and the record are tested too, and the record moved on by it. The
-/// team is the first test after opening, the record's tests are the last.
+/// What is decided on, once opening, the team and the record are tested too, and the record moved on by it.
+/// The team is the first test after opening, the record's tests are the last.
 // Kept: `image`, `words`, `bytes`, `totals` one by one, here and below (N): each is written or zeroed apart
 // from the others, and a struct of four `&mut` would have each contract name the loan of each field.
 pub fn decide_image(
