@@ -41,7 +41,7 @@ no-clip (edit.Fill file clip) h = absurd h
 no-clip (edit.Insert new) h = refl
 no-clip (edit.MakeDirectories start path) h = refl
 
-pub without-clip : (x : declared.Edit) (ed : Edit) → edit_of x ≡ ed → IsPlaceEdit ed → clip_of x ≡ []
+without-clip : (x : declared.Edit) (ed : Edit) → edit_of x ≡ ed → IsPlaceEdit ed → clip_of x ≡ []
 without-clip x ed e h = no-clip x (subst IsPlaceEdit (sym e) h)
 
 -- none of a fill, and the end of what it leaves to be zeroed has 32 bits
@@ -59,17 +59,17 @@ place-plan words image (filled k clip p) q = absurd q
 
 -- ---- what is decided on can be carried out in parts
 
-pub can-copy : (v : Verdict) (p : Plan) (image : List ℕ) (room : ℕ) (bytes : List ℕ) (d : Result Decision Refusal) → DecidedAs v p image room bytes [] d → CanCopy image d
+can-copy : (v : Verdict) (p : Plan) (image : List ℕ) (room : ℕ) (bytes : List ℕ) (d : Result Decision Refusal) → DecidedAs v p image room bytes [] d → CanCopy image d
 can-copy v p image room bytes (Err c) h = tt
 can-copy v p image room bytes (Ok decision.Nothing) h = tt
 can-copy v p image room bytes (Ok (decision.Clip n at)) h = tt
 can-copy v p image room bytes (Ok (decision.Write n size w)) h = h.fits.1.inside.copied
 
-pub can-table : (v : Verdict) (p : Plan) (image : List ℕ) (room : ℕ) (bytes : List ℕ) (d : Result Decision Refusal) → DecidedAs v p image room bytes [] d → (n : ℕ) → n ≡ room → CanTable image n d
-can-table v p image room bytes (Err c) h n e = tt
-can-table v p image room bytes (Ok decision.Nothing) h n e = tt
-can-table v p image room bytes (Ok (decision.Clip m at)) h n e = tt
-can-table v p image room bytes (Ok (decision.Write m size w)) h n e = rw e h.fits.1.table
+can-table : (v : Verdict) (p : Plan) (image : List ℕ) (room : ℕ) (bytes : List ℕ) (d : Result Decision Refusal) → DecidedAs v p image room bytes [] d → CanTable image room d
+can-table v p image room bytes (Err c) h = tt
+can-table v p image room bytes (Ok decision.Nothing) h = tt
+can-table v p image room bytes (Ok (decision.Clip n at)) h = tt
+can-table v p image room bytes (Ok (decision.Write n size w)) h = h.fits.1.table
 
 -- ---- the parts, where the plan's tests say v
 
@@ -156,8 +156,13 @@ module _ (ed : Edit) (place : IsPlaceEdit ed) (image : List ℕ) (b : AllBytes i
 
 -- ---- by what the code did
 
-module _ (ed : Edit) (place : IsPlaceEdit ed) (team : ℕ) (image words bytes b : List ℕ) (t t' : Totals) (d : Result Decision Refusal) (all : AllBytes image)
-    (f : IsAccountedFor (plan_behind (first (opening image (length words)) (team_verdict team)) (plan_of ed (disc_of image))) image (length words) (length bytes) b [] (account t team) (account_with d t')) where
+-- an edit x of the code, which is the edit ed, was decided on in words₁ and bytes₁, which hold what words and bytes do
+module _ (x : declared.Edit) (ed : Edit) (same : edit_of x ≡ ed) (place : IsPlaceEdit ed) (team : ℕ) (image words words₁ bytes bytes₁ b : List ℕ) (lent : words₁ ≡ words) (lent-bytes : bytes₁ ≡ bytes) (t t' : Totals)
+    (d : Result Decision Refusal) (all : AllBytes image)
+    (g : IsAccountedFor (plan_behind (first (opening image (length words₁)) (team_verdict team)) (plan_of (edit_of x) (disc_of image))) image (length words₁) (length bytes₁) b (clip_of x) (account t team) (account_with d t')) where
+  f : IsAccountedFor (plan_behind (first (opening image (length words)) (team_verdict team)) (plan_of ed (disc_of image))) image (length words) (length bytes) b [] (account t team) (account_with d t')
+  f = rw (without-clip x ed same place, same, lent, lent-bytes) at g
+
   abbrev verdict : Verdict
   verdict = verdict_of ed (account t team) image (length words) (length bytes)
 
@@ -165,6 +170,9 @@ module _ (ed : Edit) (place : IsPlaceEdit ed) (team : ℕ) (image words bytes b 
   told = whole ed place image all (length words) (length bytes) b (account t team) t' d f
 
   -- ---- the copy
+
+  pub can-be-copied : CanCopy image d
+  can-be-copied = can-copy _ _ image (length bytes) b d f.decided
 
   copied-is : (image' : List ℕ) → image' ≡ copied_by d image → image' ≡ image_after_copy ed (account t team) image (length words) (length bytes)
   unfolding image_after_copy
@@ -179,6 +187,9 @@ module _ (ed : Edit) (place : IsPlaceEdit ed) (team : ℕ) (image words bytes b 
       subst (λ (x : List ℕ). DifferOnlyIn image x (plan_copy (plan_of ed (disc_of image)))) (sym (copied-is image' i)) (own-copy ed (account t team) image (length words) (length bytes) place all)
 
   -- ---- the table
+
+  pub can-be-tabled : length b ≡ length bytes₁ → CanTable image (length b) d
+  can-be-tabled e = rw (e, lent-bytes) (can-table _ _ image (length bytes) b d f.decided)
 
   tabled-is : (image' : List ℕ) → image' ≡ tabled_by d b image → image' ≡ image_after_table ed (account t team) image (length words) (length bytes)
   unfolding image_after_table
