@@ -1,5 +1,6 @@
 // The three calls.
 ghost use Rattle.std.specs.Prelude.{◌≡◌, length};
+ghost use Rattle.endian.specs.Bytes.{AllBytes};
 ghost use Rattle.tree.specs.Table.{encode};
 ghost use Rattle.opened.specs.Opening.{zeros, nodes_in, disc_of};
 ghost use Rattle.edit_rules.specs.Edits.{plan_of, plan_tree};
@@ -16,6 +17,11 @@ use opened::{Lent, OpenDisc};
 use refusal::{Refusal, Verdict};
 use space::DiscRegion;
 use totals::Totals;
+
+// That an image is of bytes is known of a parameter that is only read.
+fn of_bytes(image: &[u8])
+    ensures { AllBytes image.now }
+{}
 
 // Kept: `image`, `words`, `bytes`, `totals` in each call (C): the memory that a call of the library is lent.
 /// The first call: makes every test of the single edit, those of team and record too, and writes the file's
@@ -34,19 +40,19 @@ pub fn copy(
     ensures own_part { let plan = plan_of (place_edit_of edit) (disc_of image.old) in
         DifferOnlyIn image.old image.new (plan_copy plan) }
 {
+    of_bytes(image);
     let words = Lent::new(words);
     let bytes = Lent::new(bytes);
     // The record is tested, and only its copy moves on.
     let mut tried = *totals;
     let edit = edit.whole();
-    let decided =
-        edit::decide_image(image, words.memory, bytes.memory, &mut tried, team, edit);
+    let decided = edit::decide_image(image, words.memory, bytes.memory, &mut tried, team, edit);
     edit::finish_copy(image, decided)
 }
 
 /// The second call: makes every test again, on the image as it is. Writes the new table, zeros over the old
-/// one's lost tail, and the size in the header, nothing else; the record moves on as by the single edit. Gives
-/// what is left to be zeroed, offset and size 0 where there is nothing.
+/// one's lost tail, and the size in the header, nothing else; the record moves on as by the single edit.
+/// Gives what is left to be zeroed, offset and size 0 where there is nothing.
 pub fn write_table(
     image: &mut [u8],
     words: &mut [u32],
@@ -62,6 +68,7 @@ pub fn write_table(
         let nodes = plan_tree plan (nodes_in image.old) in
         DifferOnlyInTable image.old image.new (length (encode nodes)) }
 {
+    of_bytes(image);
     let words = Lent::new(words);
     let bytes = Lent::new(bytes);
     let edit = edit.whole();
@@ -89,6 +96,7 @@ pub fn zero(image: &mut [u8], words: &mut [u32], span: DiscRegion) -> Verdict
     ensures own_part { DifferOnlyIn image.old image.new span }
     ensures what_is_free { ZeroesWhatIsFree image.old (length words.old) span result }
 {
+    of_bytes(image);
     let words = Lent::new(words);
     check_span(image, words.memory, span)?;
     edit::zero_lost(image, span.offset as usize, span.size as usize);

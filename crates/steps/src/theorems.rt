@@ -3,7 +3,8 @@
 // why they hold in proofs/Laws/.
 ghost use Rattle.steps.specs.Theorem.{ThreeCalls, CutsKept};
 
-// After each call the image opens, to the old tree and then to the new one, and all three are the single edit.
+// After each call the image opens, to the old tree and then to the new one, and all three are the single
+// edit.
 pub fn three_calls()
     ensures { ThreeCalls }
 {}
