@@ -1,5 +1,5 @@
 -- What an edit decides on, on the disc that opened, is entered in the record as any edit's decision is. Assumes nothing.
-use Rattle.std.specs.Prelude.{Result, Ok, ℕ, ◌≡◌, List, length}
+use Rattle.std.specs.Prelude.{Result, Ok, ℕ, ◌≡◌, List, [], length}
 use Rattle.std.proofs.Common.{sym, subst}
 use Rattle.refusal.specs.declared.Refusal.{Refusal}
 use Rattle.refusal.specs.Refusal.{first}
@@ -9,11 +9,13 @@ use Rattle.opened.specs.Opening.{opening, Disc, disc_of}
 use Rattle.edit_rules.specs.Edits as edits
 use Rattle.edit_rules.specs.Edits.{account, plan_behind, plan_of, plan_verdict}
 use Rattle.opened.specs.Inner.Disc.{Opened, Means}
+use Rattle.ledger.specs.Runs.{IsPassable}
 use Rattle.edit.specs.declared.decision.Decision.{Decision}
-use Rattle.edit.specs.Inner.Decision.{DecidedAs}
-use Rattle.edit.specs.Inner.Accounting.{OnDisc, OfUsed, Accounted, account_of, IsAccountedFor}
+use Rattle.edit.specs.Inner.Decision.{DecidedAs, Judges}
+use Rattle.edit.specs.Inner.Accounting.{OnDisc, OfUsed, Accounted, account_with, account_of, IsAccountedFor, IsForeseen}
 use Rattle.edit.specs.Laws.AccountLaws.{on-disc}
 use Rattle.edit.proofs.Edited.{numbered, open-accounted}
+use Rattle.edit.proofs.Judged.{Drafted, some-draft}
 use Rattle.edit.specs.Inner.Decides.{IsEditDecided}
 
 -- ---- on the disc that an image means
@@ -36,3 +38,20 @@ module _ (ed : edits.Edit) (image : List ℕ) (words : ℕ) (d : Opened) (o : Me
   edit-accounted r h x t team k n q long =
       let m = numbered team k n in
       rw o.1 at (open-accounted ed h.passable image d o.0 room bytes clip long r (decided_as r h) x (account t team) m.0 (rw m.1 at q))
+
+-- ---- judged, with a table drafted in some bytes
+
+module _ (ed : edits.Edit) (image : List ℕ) (words : ℕ) (d : Opened) (o : Means image d × (d.words ≡ words)) (room : ℕ) (r : Result Decision Refusal) (j : Judges (plan_of ed d.disc) d room r) (h : IsPassable ed) where
+  draft : Drafted d.disc.nodes room r
+  draft = some-draft d.disc.nodes room r j.draftable
+
+  decided : IsEditDecided ed d room draft.bytes [] r
+  decided = record { decided = j.decides draft.bytes draft.is; passable = h }
+
+  pub judged-on-disc : OnDisc d.disc r
+  judged-on-disc = on_disc ed image words d o room draft.bytes [] r decided draft.long
+
+  pub judged-accounted : (x : Result Decision Refusal) (t t' : Totals) (team k : ℕ) → Ok k ≡ numbered_team team → OfUsed d (λ image' behind. account_with x t' ≡ account_of image' behind r (account t k)) →
+      IsForeseen (plan_behind (first (opening image words) (team_verdict team)) (plan_of ed (disc_of image))) image words room (account t team) x
+  judged-accounted x t t' team k n q =
+      record { bytes = draft.bytes; totals = t'; accounted = edit-accounted ed image words d o room draft.bytes [] r decided (account_with x t') t team k n q draft.long }

@@ -13,6 +13,7 @@ pub mod Entering
 pub mod Files
 pub mod FillOutcomes
 pub mod Images
+pub mod Judged
 pub mod InsertionLaws
 pub mod Lists
 pub mod Outcomes

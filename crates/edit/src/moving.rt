@@ -6,7 +6,7 @@ ghost use Rattle.edit_rules.specs.Edits as edits_of;
 ghost use Rattle.edit_rules.specs.Edits.{plan_behind, relocate_verdict, relocation_change, plan_of};
 ghost use Rattle.opened.specs.Opening.{free_of};
 ghost use Rattle.opened.specs.Inner.Disc.{Means};
-ghost use Rattle.edit.specs.Inner.Decision.{InImage, change_with, Decides};
+ghost use Rattle.edit.specs.Inner.Decision.{InImage, change_with, Decides, Judges};
 ghost use Rattle.edit.specs.Inner.Files.{IsFile, IsFileOf, relocation_of};
 
 use crate::decision::{Decision, Span, Writing};
@@ -33,10 +33,10 @@ pub fn rewrite(disc: &OpenDisc<'_>, bytes: &mut [u8]) -> Result<Decision, Refusa
     })
 }
 
-// The tree with another place for a file.
-pub(crate) fn set_place(
+// The tree with another place for a file: its table is judged, and not written yet.
+pub(crate) fn place_file(
     disc: &OpenDisc<'_>,
-    bytes: &mut [u8],
+    room: usize,
     number: u32,
     writing: Writing,
 ) -> Result<Decision, Refusal>
@@ -44,13 +44,9 @@ pub(crate) fn set_place(
     requires inside { (image : List ℕ) → Means image disc.now → InImage (length image) writing }
     ensures { let place = writing.place in
         let nodes = insert_of.set_place number place.offset place.size disc.now.disc.nodes in
-        let plan = change number (change_with nodes writing) in
-        Decides plan disc.now (length bytes.old) bytes.new result }
+        Judges (change number (change_with nodes writing)) disc.now room result }
 {
-    let place = writing.place;
-    let size = place::check_new_table(disc, bytes.len(), place)?;
-    place::write_table(disc.table(), bytes);
-    table_writing::set_place(bytes, number as usize, place.offset, place.size);
+    let size = place::check_new_table(disc, room, writing.place)?;
     Ok(Decision::Write {
         number,
         size,
@@ -96,7 +92,7 @@ fn relocation(old: DiscRegion, new: DiscRegion) -> Writing
 // The file goes from one place to another.
 pub(crate) fn relocate(
     disc: &OpenDisc<'_>,
-    bytes: &mut [u8],
+    room: usize,
     file: File,
     new: DiscRegion,
 ) -> Result<Decision, Refusal>
@@ -104,14 +100,32 @@ pub(crate) fn relocate(
     ensures { let nodes = disc.now.disc.nodes in
         let moved = change file.number (relocation_change nodes file.number file.place new) in
         let plan = plan_behind (relocate_verdict (free_of disc.now.disc) file.place new) moved in
-        Decides plan disc.now (length bytes.old) bytes.new result }
+        Judges plan disc.now room result }
 {
     check_relocate(disc, file.place, new)?;
-    set_place(disc, bytes, file.number, relocation(file.place, new))
+    place_file(disc, room, file.number, relocation(file.place, new))
 }
 
-/// The file of that number goes to another offset: 15, 16, 20 if it would overlap itself, 21 if its new place
-/// is not free, then the table's tests.
+/// A move judged, where `room` working bytes are lent: 15, 16, 20 if the file would overlap itself, 21 if its
+/// new place is not free, then the table's tests.
+pub fn judge_move(
+    disc: &OpenDisc<'_>,
+    room: usize,
+    number: u32,
+    offset: u32,
+) -> Result<Decision, Refusal>
+    ensures { let plan = plan_of (edits_of.move_file number offset) disc.now.disc in
+        Judges plan disc.now room result }
+{
+    let file = file_on_disc(disc, number)?;
+    let new = DiscRegion {
+        offset,
+        size: file.place.size,
+    };
+    relocate(disc, room, file, new)
+}
+
+/// The file of that number goes to another offset: judged, and its table drafted.
 pub fn move_file(
     disc: &OpenDisc<'_>,
     bytes: &mut [u8],
@@ -121,10 +135,6 @@ pub fn move_file(
     ensures { let plan = plan_of (edits_of.move_file number offset) disc.now.disc in
         Decides plan disc.now (length bytes.old) bytes.new result }
 {
-    let file = file_on_disc(disc, number)?;
-    let new = DiscRegion {
-        offset,
-        size: file.place.size,
-    };
-    relocate(disc, bytes, file, new)
+    let judged = judge_move(disc, bytes.len(), number, offset);
+    place::draft(disc, bytes, judged)
 }

@@ -7,12 +7,14 @@ ghost use Rattle.totals.specs.Totals.{team_verdict};
 ghost use Rattle.edit_rules.specs.Edits.{account, plan_behind, plan_of, number_behind};
 ghost use Rattle.edit_rules.specs.Promise.{loan, only_verdict, IsEdited};
 ghost use Rattle.ledger.specs.Runs.{IsPassable};
-ghost use Rattle.edit.specs.Inner.Accounting.{account_with, IsAccountedFor};
-ghost use Rattle.edit.specs.Asked.{edit_of};
+ghost use Rattle.edit.specs.Inner.Accounting.{account_with, IsAccountedFor, IsForeseen};
+ghost use Rattle.edit.specs.Inner.Decision.{Judges};
+ghost use Rattle.edit.specs.Asked.{edit_of, place_edit_of};
 ghost use Rattle.edit.specs.Inner.Decides.{IsEditDecided, clip_of};
 
 use crate::decision::Decision;
 use crate::new_entry::NewEntry;
+use crate::place_edit::PlaceEdit;
 use crate::{account, decision, directories, filling, insertion, moving, resizing};
 use opened::{Lent, OpenDisc};
 use refusal::{Refusal, Verdict};
@@ -104,6 +106,41 @@ pub fn decide_image(
     let team = totals::team_number(team)?;
     let decided = decide(&disc, bytes, edit);
     account::account(&disc, decided, totals, team)
+}
+
+/// A move or a resize judged on an open disc, where `room` working bytes are lent: as `decide`, but that no
+/// table is drafted.
+pub fn judge(disc: &OpenDisc<'_>, room: usize, edit: PlaceEdit) -> Result<Decision, Refusal>
+    ensures { let asked = place_edit_of edit in
+        Judges (plan_of asked disc.now.disc) disc.now room result }
+{
+    match edit {
+        PlaceEdit::Move { file, offset } => moving::judge_move(disc, room, file, offset),
+        PlaceEdit::Resize { file, size } => resizing::judge_resize(disc, room, file, size),
+    }
+}
+
+/// What `decide_image` decides on for a move or a resize, with no table drafted and the record as it was.
+pub fn judge_image(
+    image: &[u8],
+    words: &mut [u32],
+    room: usize,
+    totals: &Totals,
+    team: u32,
+    edit: PlaceEdit,
+) -> Result<Decision, Refusal>
+    ensures { let opened = opening image.now (length words.old) in
+        let admitted = first opened (team_verdict team) in
+        let plan = plan_behind admitted (plan_of (place_edit_of edit) (disc_of image.now)) in
+        IsForeseen plan image.now (length words.old) room (account totals.now team) result }
+{
+    edit.passable();
+    let disc = OpenDisc::of_image(image, words)?;
+    let team = totals::team_number(team)?;
+    let judged = judge(&disc, room, edit);
+    // The record is tested, and only its copy moves on.
+    let mut tried = *totals;
+    account::account(&disc, judged, &mut tried, team)
 }
 
 /// The whole edit: opens the image, makes every test, builds the new table in the working bytes, and only

@@ -4,8 +4,9 @@ ghost use Rattle.endian.specs.Bytes.{put};
 ghost use Rattle.tree.specs.Table.{count, nodes_of, encode};
 ghost use Rattle.table_writing.specs.Inner.Valid.{IsValid};
 ghost use Rattle.edit_rules.specs.Change.{place_verdict};
-ghost use Rattle.edit.specs.Inner.Decision.{judged_size};
+ghost use Rattle.edit.specs.Inner.Decision.{judged_size, IsDraftable, IsDrafted};
 
+use crate::decision::Decision;
 use opened::OpenDisc;
 use refusal::{Refusal, Verdict};
 use space::DiscRegion;
@@ -61,4 +62,27 @@ pub fn write_table(table: &[u8], bytes: &mut [u8])
     ensures { bytes.new ≡ put bytes.old 0 (encode (nodes_of table.now)) }
 {
     table_writing::write_table(table, bytes);
+}
+
+/// Drafts in the working bytes the table of what was judged: the tree anew, with the file at its new place. What
+/// was judged is handed back.
+pub fn draft(
+    disc: &OpenDisc<'_>,
+    bytes: &mut [u8],
+    judged: Result<Decision, Refusal>,
+) -> Result<Decision, Refusal>
+    requires { IsDraftable disc.now.disc.nodes (length bytes.old) judged }
+    ensures drafted { IsDrafted disc.now.disc.nodes bytes.new judged }
+    ensures same { result ≡ judged }
+{
+    let decision = judged?;
+    if let Decision::Write {
+        number, writing, ..
+    } = decision
+    {
+        let place = writing.place;
+        write_table(disc.table(), bytes);
+        table_writing::set_place(bytes, number as usize, place.offset, place.size);
+    }
+    Ok(decision)
 }

@@ -6,13 +6,14 @@ ghost use Rattle.edit_rules.specs.Change.{change};
 ghost use Rattle.edit_rules.specs.Edits as edits_of;
 ghost use Rattle.edit_rules.specs.Edits.{resize_change, plan_elsewhere, plan_sized, plan_of};
 ghost use Rattle.opened.specs.Opening.{free_of};
-ghost use Rattle.edit.specs.Inner.Decision.{Decides};
+ghost use Rattle.edit.specs.Inner.Decision.{Decides, Judges};
 ghost use Rattle.edit.specs.Inner.Files.{IsFileOf};
 
 use crate::decision::{Decision, Span, Writing};
 use crate::file::File;
 use crate::finding::file_on_disc;
-use crate::moving::{relocate, set_place};
+use crate::moving::{place_file, relocate};
+use crate::place;
 use opened::OpenDisc;
 use refusal::Refusal;
 use space::DiscRegion;
@@ -28,14 +29,14 @@ fn stays(disc: &OpenDisc<'_>, place: DiscRegion, new_size: u32) -> bool
 // The file keeps its place; what it loses is zeroed.
 fn resize_in_place(
     disc: &OpenDisc<'_>,
-    bytes: &mut [u8],
+    room: usize,
     file: File,
     new_size: u32,
 ) -> Result<Decision, Refusal>
     requires { IsFileOf disc.now file }
     ensures { let nodes = disc.now.disc.nodes in
         let plan = change file.number (resize_change nodes file.number file.place new_size) in
-        Decides plan disc.now (length bytes.old) bytes.new result }
+        Judges plan disc.now room result }
 {
     let old = file.place;
     let writing = Writing {
@@ -50,13 +51,13 @@ fn resize_in_place(
             size: old.size.saturating_sub(new_size) as usize,
         },
     };
-    set_place(disc, bytes, file.number, writing)
+    place_file(disc, room, file.number, writing)
 }
 
 // The file goes where there is room for it, at a multiple of 0x8000.
 fn grow_elsewhere(
     disc: &OpenDisc<'_>,
-    bytes: &mut [u8],
+    room: usize,
     file: File,
     new_size: u32,
 ) -> Result<Decision, Refusal>
@@ -64,18 +65,39 @@ fn grow_elsewhere(
     ensures { let free = free_of disc.now.disc in
         let region = allocation_of 0x8000 new_size free in
         let plan = plan_elsewhere disc.now.disc.nodes free file.number file.place new_size region in
-        Decides plan disc.now (length bytes.old) bytes.new result }
+        Judges plan disc.now room result }
 {
     let region = disc.allocate(new_size, space::CLUSTER_SIZE)?;
     let new = DiscRegion {
         offset: region.offset,
         size: new_size,
     };
-    relocate(disc, bytes, file, new)
+    relocate(disc, room, file, new)
 }
 
-/// A file gets another size: nothing is done where it has that size; it keeps its place if it can, else it
-/// goes where there is room, or 21; then the table's tests.
+// A file gets another size: nothing is done where it has that size; it keeps its place if it can, else it goes
+// where there is room, or 21; then the table's tests, where `room` working bytes are lent.
+fn judge(
+    disc: &OpenDisc<'_>,
+    room: usize,
+    file: File,
+    new_size: u32,
+) -> Result<Decision, Refusal>
+    requires { IsFileOf disc.now file }
+    ensures { let d = disc.now.disc in
+        let plan = plan_sized (free_of d) d.nodes file.number file.place new_size in
+        Judges plan disc.now room result }
+{
+    if new_size == file.place.size {
+        return Ok(Decision::Nothing);
+    }
+    if stays(disc, file.place, new_size) {
+        return resize_in_place(disc, room, file, new_size);
+    }
+    grow_elsewhere(disc, room, file, new_size)
+}
+
+/// A file resized: judged, and its table drafted.
 pub fn resize(
     disc: &OpenDisc<'_>,
     bytes: &mut [u8],
@@ -87,16 +109,25 @@ pub fn resize(
         let plan = plan_sized (free_of d) d.nodes file.number file.place new_size in
         Decides plan disc.now (length bytes.old) bytes.new result }
 {
-    if new_size == file.place.size {
-        return Ok(Decision::Nothing);
-    }
-    if stays(disc, file.place, new_size) {
-        return resize_in_place(disc, bytes, file, new_size);
-    }
-    grow_elsewhere(disc, bytes, file, new_size)
+    let judged = judge(disc, bytes.len(), file, new_size);
+    place::draft(disc, bytes, judged)
 }
 
-/// The file of that number gets another size: 15, 16, then as `resize`.
+/// A resize judged, where `room` working bytes are lent: 15, 16, 21 and 20, then the table's tests.
+pub fn judge_resize(
+    disc: &OpenDisc<'_>,
+    room: usize,
+    number: u32,
+    new_size: u32,
+) -> Result<Decision, Refusal>
+    ensures { let plan = plan_of (edits_of.resize_file number new_size) disc.now.disc in
+        Judges plan disc.now room result }
+{
+    let file = file_on_disc(disc, number)?;
+    judge(disc, room, file, new_size)
+}
+
+/// The file of that number gets another size: judged, and its table drafted.
 pub fn resize_file(
     disc: &OpenDisc<'_>,
     bytes: &mut [u8],
@@ -106,6 +137,6 @@ pub fn resize_file(
     ensures { let plan = plan_of (edits_of.resize_file number new_size) disc.now.disc in
         Decides plan disc.now (length bytes.old) bytes.new result }
 {
-    let file = file_on_disc(disc, number)?;
-    resize(disc, bytes, file, new_size)
+    let judged = judge_resize(disc, bytes.len(), number, new_size);
+    place::draft(disc, bytes, judged)
 }

@@ -24,7 +24,7 @@ use Rattle.edit.specs.Asked.{edit_of}
 use Rattle.edit.specs.Inner.Decides.{clip_of}
 use Rattle.edit.specs.Inner.Decision.{IsCarried, carried_verdict, CanCopy, copied_by, CanTable, tabled_by, lost_by, DecidedAs}
 use Rattle.edit.specs.Inner.Accounting.{account_with, IsAccountedFor}
-use Rattle.steps.specs.Asked.{IsPlaceEdit}
+use Rattle.edit.specs.Asked.{IsPlaceEdit}
 use Rattle.steps.specs.Places.{DifferOnlyIn, DifferOnlyInTable}
 use Rattle.steps.specs.Parts.{plan_copy, plan_copied, plan_tabled, plan_span, image_after_copy, image_after_table}
 use Rattle.steps.specs.Promise.{own_verdict, MakesCopy, span_behind, WritesTable}

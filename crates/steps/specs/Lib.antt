@@ -1,4 +1,3 @@
-pub mod Asked
 pub mod Parts
 pub mod Places
 pub mod Promise

@@ -9,7 +9,7 @@ use Rattle.edit_rules.specs.Edits.{Edit, Account, plan_of, verdict_of, image_aft
 use Rattle.ledger.specs.Ledger.{first_ledger, ledger_with, ledger_after}
 use Rattle.ledger.specs.Runs.{Call, image_after_all, reports_of, AllWithin}
 use Rattle.ledger.specs.Theorem.{LedgerHolds}
-use Rattle.steps.specs.Asked.{IsPlaceEdit}
+use Rattle.edit.specs.Asked.{IsPlaceEdit}
 use Rattle.steps.specs.Parts.{plan_span, image_after_copy, image_after_table, zero_verdict, image_after_zeros}
 
 -- the image at a cut behind the copy, and at one behind the table

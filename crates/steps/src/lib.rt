@@ -2,11 +2,10 @@
 // the table, the zeros.
 #![tactic(auto)]
 
-mod place_edit;
 mod span;
 mod steps;
 mod theorems;
 
-pub use place_edit::PlaceEdit;
+pub use edit::PlaceEdit;
 pub use steps::{copy, write_table, zero};
 pub use theorems::{cuts_kept, three_calls};

@@ -5,14 +5,14 @@ ghost use Rattle.tree.specs.Table.{encode};
 ghost use Rattle.opened.specs.Opening.{zeros, nodes_in, disc_of};
 ghost use Rattle.edit_rules.specs.Edits.{plan_of, plan_tree};
 ghost use Rattle.edit_rules.specs.Promise.{loan};
-ghost use Rattle.steps.specs.Asked.{place_edit_of};
+ghost use Rattle.edit.specs.Asked.{place_edit_of};
 ghost use Rattle.steps.specs.Parts.{plan_copy, zero_verdict, image_after_zeros};
 ghost use Rattle.steps.specs.Places.{DifferOnlyIn, DifferOnlyInTable};
 ghost use Rattle.steps.specs.Promise.{own_verdict, MakesCopy, span_behind, WritesTable};
 ghost use Rattle.steps.specs.Promise.{ZeroesWhatIsFree};
 
-use crate::place_edit::PlaceEdit;
 use crate::span;
+use edit::PlaceEdit;
 use opened::{Lent, OpenDisc};
 use refusal::{Refusal, Verdict};
 use space::DiscRegion;

@@ -1,5 +1,5 @@
 -- What is decided on, or why it is refused, entered in the totals record. Assumes nothing: these are definitions.
-use Rattle.std.specs.Prelude.{Result, Ok, Err, ℕ, ◌+◌, ◌-◌, ◌≤◌, ◌≡◌, List, length, if◌then◌else◌, is_err}
+use Rattle.std.specs.Prelude.{Result, Ok, Err, ℕ, ◌+◌, ◌-◌, ◌≤◌, ◌≡◌, List, [], length, if◌then◌else◌, is_err}
 use Rattle.refusal.specs.declared.Refusal.{Refusal}
 use Rattle.refusal.specs.Refusal.{Verdict}
 use Rattle.header.specs.Verdicts.{fst_offset, fst_size, disc_end}
@@ -99,3 +99,9 @@ counted_totals p a image words room = if is_err (counted_verdict p a image words
 pub record IsAccountedFor (p : Plan) (image : List ℕ) (words room : ℕ) (bytes clip : List ℕ) (a : Account) (x : Accounted) : Type 0 where
   pub decided : DecidedAs (counted_verdict p a image words room) p image room bytes clip x.decision
   pub totals : x.totals ≡ counted_totals p a image words room
+
+-- r is decided on so, with a table drafted in some bytes and the record moved on, where neither was
+pub record IsForeseen (p : Plan) (image : List ℕ) (words room : ℕ) (a : Account) (r : Result Decision Refusal) : Type 0 where
+  pub bytes : List ℕ
+  pub totals : Totals
+  pub accounted : IsAccountedFor p image words room bytes [] a (account_with r totals)

@@ -6,12 +6,14 @@ use Rattle.refusal.specs.declared.Refusal.{Refusal}
 use Rattle.endian.specs.Bytes.{put, span}
 use Rattle.header.specs.Verdicts.{fst_offset, fst_size}
 use Rattle.tree.specs.Table.{Node, encode}
+use Rattle.tree.specs.Insert.{set_place}
 use Rattle.space.specs.declared.region.DiscRegion.{DiscRegion}
 use Rattle.space.specs.Used.{no_region}
 use Rattle.edit.specs.declared.decision.Span.{Span}
 use Rattle.edit.specs.declared.decision.Writing.{Writing}
 use Rattle.edit.specs.declared.decision.Decision.{Decision}
 use Rattle.edit.specs.declared.decision.Decision.TheVariants as decision
+use Rattle.edit.specs.Inner.Files.{IsFile}
 use Rattle.edit_rules.specs.Change.{Change, image_with_table, table_verdict, Plan, refused, nothing, change, filled}
 use Rattle.edit_rules.specs.Edits.{plan_verdict, plan_image}
 use Rattle.opened.specs.Opening.{Disc}
@@ -200,3 +202,30 @@ Decides p d room bytes r = (image : List ℕ) → Means image d → IsDecided p 
 -- with a clip
 abbrev pub DecidesWith : List ℕ → Plan → Opened → ℕ → List ℕ → Result Decision Refusal → Type 0
 DecidesWith clip p d room bytes r = (image : List ℕ) → Means image d → DecidedAs (plan_verdict p d.disc d.words room) p image room bytes clip r
+
+-- ---- a file's place judged, before a table stands in the working bytes
+
+-- room for the tree's table, which with another place for the file is as long
+pub record CanDraft (nodes : List Node) (room n size : ℕ) : Type 0 where
+  pub file : IsFile nodes n
+  pub long : size ≡ length (encode nodes)
+  pub held : size ≤ room
+  pub small : size ≤ 2 ^ 24
+
+abbrev pub IsDraftable : List Node → ℕ → Result Decision Refusal → Type 0
+IsDraftable nodes room (Err c) = Unit {0}
+IsDraftable nodes room (Ok decision.Nothing) = Unit {0}
+IsDraftable nodes room (Ok (decision.Clip n at)) = Unit {0}
+IsDraftable nodes room (Ok (decision.Write n size w)) = CanDraft nodes room n size
+
+-- the tree's table with the file at its new place stands in the bytes
+abbrev pub IsDrafted : List Node → List ℕ → Result Decision Refusal → Type 0
+IsDrafted nodes bytes (Err c) = Unit {0}
+IsDrafted nodes bytes (Ok decision.Nothing) = Unit {0}
+IsDrafted nodes bytes (Ok (decision.Clip n at)) = Unit {0}
+IsDrafted nodes bytes (Ok (decision.Write n size w)) = span bytes 0 size ≡ encode (set_place n w.place.offset w.place.size nodes)
+
+-- with that table in any bytes it is what the plan comes to
+pub record Judges (p : Plan) (d : Opened) (room : ℕ) (r : Result Decision Refusal) : Type 0 where
+  pub draftable : IsDraftable d.disc.nodes room r
+  pub decides : (bytes : List ℕ) → IsDrafted d.disc.nodes bytes r → Decides p d room bytes r

@@ -13,7 +13,7 @@ use Rattle.edit_rules.specs.Edits.{Edit, Account, plan_of, plan_tree, verdict_of
 use Rattle.edit_rules.proofs.Laws.Accepted.{accepted}
 use Rattle.edit_rules.proofs.Laws.Puts.{Fits}
 use Rattle.ledger.proofs.Laws.Opened.{Opened, opened}
-use Rattle.steps.specs.Asked.{IsPlaceEdit}
+use Rattle.edit.specs.Asked.{IsPlaceEdit}
 use Rattle.steps.specs.Parts.{plan_copy, plan_copied, plan_tabled, image_after_copy, image_after_table, zero_verdict, image_after_zeros}
 use Rattle.steps.specs.Places.{DifferOnlyIn, DifferOnlyInTable}
 use Rattle.steps.proofs.Laws.Parts.{differ-only, outside_region}

@@ -29,7 +29,7 @@ use Rattle.ledger.proofs.Laws.Placed.{place_in, number_in, place_number, place_i
 use Rattle.ledger.proofs.Laws.PlaceEdits.{is-file, free-else, put-else, small_size, free-here, small-offset}
 use Rattle.ledger.proofs.Laws.Layout.{places-are}
 use Rattle.ledger.proofs.Laws.Sequence.{start}
-use Rattle.steps.specs.Asked.{IsPlaceEdit}
+use Rattle.edit.specs.Asked.{IsPlaceEdit}
 use Rattle.steps.proofs.Laws.Parts.{FreeAt, Parts}
 
 -- what a move's or a resize's plan is, if its tests pass

@@ -16,7 +16,7 @@ use Rattle.ledger.proofs.Laws.Kept.{Kept}
 use Rattle.ledger.proofs.Laws.ProgramKept.{ProgramKept, kept_trans}
 use Rattle.ledger.proofs.Laws.Steps.{step-accepted}
 use Rattle.ledger.proofs.Laws.TreeAfter.{program-after}
-use Rattle.steps.specs.Asked.{IsPlaceEdit}
+use Rattle.edit.specs.Asked.{IsPlaceEdit}
 use Rattle.steps.specs.Parts.{plan_copied, plan_tabled, plan_span, image_after_copy, image_after_table, zero_verdict, image_after_zeros}
 use Rattle.steps.specs.Theorem.{ReadsAs, IsDoneByThree, ThreeCalls}
 use Rattle.steps.proofs.Laws.Parts.{FreeAt, OnlyIn, copy_place}

@@ -1,16 +1,8 @@
--- `edit::resizing::resize_file` meets its contract: 15 and 16, then the resize of the file that was found.
-use Rattle.std.proofs.lemmas.Result.{err_from_is_err_and}
-use Rattle.edit.proofs.Files.{file-found, file-refused, resize-decided, resize-refused}
+-- `edit::resizing::resize_file` meets its contract: what was judged is decided on with the table that was drafted.
 use Rattle.edit.proofs.resizing.resize_file.Goals as goal
 
-pub returns-in_err-file : goal.returns-in_err-file
-returns-in_err-file c =
-    let a = c.args in
-    let p = err_from_is_err_and c.from_residual.result c.from_residual.ensures.1 in
-    rw (p.1, p.2) (λ image m. resize-refused image _ _ _ _ _ a.disc.now.disc.nodes a.number _ _ (file-refused a.disc.now.disc.nodes a.number _ _ c.file_on_disc.ensures.answer c.in_err-file.was))
+pub draft-requires : goal.draft-requires
+draft-requires c = c.judge_resize-judged.ensures.draftable
 
 pub returns : goal.returns
-returns c =
-    let a = c.args in
-    let f = file-found a.disc.now.disc.nodes a.number _ _ c.file_on_disc.ensures.answer c.in_ok-file.was in
-    λ image m. resize-decided image _ _ _ _ _ a.disc.now.disc.nodes a.number _ _ _ f.passed f.place (rw f.number at (c.resize.ensures image m))
+returns c = rw c.draft.ensures.same (c.judge_resize-judged.ensures.decides _ c.draft.ensures.drafted)

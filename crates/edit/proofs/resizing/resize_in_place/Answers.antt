@@ -2,5 +2,5 @@
 use Rattle.edit.proofs.Outcomes.{resized-in-image}
 use Rattle.edit.proofs.resizing.resize_in_place.Goals as goal
 
-pub set_place-requires-clause-inside : goal.set_place-requires-clause-inside
-set_place-requires-clause-inside c = λ image m. resized-in-image image c.args.disc.now m c.args.file c.requires c.args.new_size _ c.saturating_sub.ensures
+pub place_file-requires-clause-inside : goal.place_file-requires-clause-inside
+place_file-requires-clause-inside c = λ image m. resized-in-image image c.args.disc.now m c.args.file c.requires c.args.new_size _ c.saturating_sub.ensures

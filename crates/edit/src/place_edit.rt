@@ -1,9 +1,9 @@
-// The edits that three calls can make.
+// The edits of a file's place or size, which three calls can make too.
 ghost use Rattle.std.specs.Prelude.{◌≡◌};
-ghost use Rattle.edit.specs.Asked.{edit_of};
-ghost use Rattle.steps.specs.Asked.{place_edit_of, IsPlaceEdit};
+ghost use Rattle.ledger.specs.Runs.{IsPassable};
+ghost use Rattle.edit.specs.Asked.{edit_of, place_edit_of, IsPlaceEdit};
 
-use edit::Edit;
+use crate::pipeline::Edit;
 
 /// An edit of a file's place or size. Files go by their entry numbers; offsets and sizes are in bytes.
 #[derive(Clone, Copy, Debug, PartialEq, Eq)]
@@ -24,5 +24,12 @@ impl PlaceEdit {
             PlaceEdit::Move { file, offset } => Edit::Move { file, offset },
             PlaceEdit::Resize { file, size } => Edit::Resize { file, size },
         }
+    }
+
+    // Its numbers have 32 bits: known whatever becomes of it.
+    pub(crate) fn passable(self)
+        ensures { IsPassable (place_edit_of self) }
+    {
+        let _ = self;
     }
 }
