@@ -1,21 +1,19 @@
 -- What is decided on, carried out in a part, is that part of the plan; and with the working memory zeroed it is the call. Assumes nothing.
-use Rattle.std.specs.Prelude.{Result, Ok, Err, ℕ, ◌^◌, ◌<◌, ◌≡◌, refl, Bool, true, false, cond, List, [], length, is_err, nat_lt}
+use Rattle.std.specs.Prelude.{Result, Ok, Err, ℕ, ◌≡◌, refl, cond, List, [], length, is_err}
 use Rattle.std.proofs.Common.{sym, ap, subst, ◌∙◌, arith}
-use Rattle.endian.specs.Bytes.{span, AllBytes}
+use Rattle.endian.specs.Bytes.{AllBytes}
 use Rattle.refusal.specs.declared.Refusal.{Refusal}
 use Rattle.refusal.specs.Refusal.{Verdict, first}
-use Rattle.refusal.specs.Laws.Chains.{first-passed}
 use Rattle.header.specs.Verdicts.{fst_offset, fst_size}
+use Rattle.tree.specs.Table.{encode}
 use Rattle.space.specs.declared.region.DiscRegion.{DiscRegion}
-use Rattle.space.specs.Used.{no_region}
 use Rattle.totals.specs.declared.Totals.{Totals}
 use Rattle.totals.specs.Totals.{team_verdict}
-use Rattle.opened.specs.Opening.{opening, zeros, disc_of}
+use Rattle.opened.specs.Opening.{opening, zeros, nodes_in, disc_of}
 use Rattle.opened.proofs.Laws.OpeningLaws.{first-assoc}
 use Rattle.edit_rules.specs.Change.{Change, image_with_table, copied_image, Plan, refused, nothing, change, filled}
-use Rattle.edit_rules.specs.Edits.{Edit, Account, account, plan_behind, plan_of, plan_image, counted_verdict, verdict_of, totals_to, totals_after}
+use Rattle.edit_rules.specs.Edits.{Edit, Account, account, plan_behind, plan_of, plan_tree, plan_image, counted_verdict, verdict_of, totals_to, totals_after}
 use Rattle.edit_rules.specs.Promise.{loan}
-use Rattle.ledger.proofs.Laws.Opened.{opened}
 use Rattle.edit.specs.declared.decision.Span.{Span}
 use Rattle.edit.specs.declared.decision.Writing.{Writing}
 use Rattle.edit.specs.declared.decision.Decision.{Decision}
@@ -27,9 +25,11 @@ use Rattle.edit.specs.Inner.Decides.{clip_of}
 use Rattle.edit.specs.Inner.Decision.{IsCarried, carried_verdict, CanCopy, copied_by, CanTable, tabled_by, lost_by, DecidedAs}
 use Rattle.edit.specs.Inner.Accounting.{account_with, IsAccountedFor}
 use Rattle.steps.specs.Asked.{IsPlaceEdit}
-use Rattle.steps.specs.Parts.{plan_copied, plan_tabled, plan_span, image_after_copy, image_after_table}
+use Rattle.steps.specs.Places.{DifferOnlyIn, DifferOnlyInTable}
+use Rattle.steps.specs.Parts.{plan_copy, plan_copied, plan_tabled, plan_span, image_after_copy, image_after_table}
 use Rattle.steps.specs.Promise.{own_verdict, MakesCopy, span_behind, WritesTable}
 use Rattle.steps.specs.Inner.Span.{span_region, IsOnDisc}
+use Rattle.steps.proofs.Laws.OwnParts.{own-copy, own-table}
 use Rattle.steps.proofs.Laws.Splitting.{Parted, parted}
 
 -- a move or a resize brings no clip
@@ -41,7 +41,7 @@ no-clip (edit.Fill file clip) h = absurd h
 no-clip (edit.Insert new) h = refl
 no-clip (edit.MakeDirectories start path) h = refl
 
-pub without-clip : (x : declared.Edit) (ed : Edit) → edit_of x ≡ ed → IsPlaceEdit ed → clip_of x ≡ []
+without-clip : (x : declared.Edit) (ed : Edit) → edit_of x ≡ ed → IsPlaceEdit ed → clip_of x ≡ []
 without-clip x ed e h = no-clip x (subst IsPlaceEdit (sym e) h)
 
 -- none of a fill, and the end of what it leaves to be zeroed has 32 bits
@@ -59,13 +59,13 @@ place-plan words image (filled k clip p) q = absurd q
 
 -- ---- what is decided on can be carried out in parts
 
-pub can-copy : (v : Verdict) (p : Plan) (image : List ℕ) (room : ℕ) (bytes : List ℕ) (d : Result Decision Refusal) → DecidedAs v p image room bytes [] d → CanCopy image d
+can-copy : (v : Verdict) (p : Plan) (image : List ℕ) (room : ℕ) (bytes : List ℕ) (d : Result Decision Refusal) → DecidedAs v p image room bytes [] d → CanCopy image d
 can-copy v p image room bytes (Err c) h = tt
 can-copy v p image room bytes (Ok decision.Nothing) h = tt
 can-copy v p image room bytes (Ok (decision.Clip n at)) h = tt
 can-copy v p image room bytes (Ok (decision.Write n size w)) h = h.fits.1.inside.copied
 
-pub can-table : (v : Verdict) (p : Plan) (image : List ℕ) (room : ℕ) (bytes : List ℕ) (d : Result Decision Refusal) → DecidedAs v p image room bytes [] d → CanTable image room d
+can-table : (v : Verdict) (p : Plan) (image : List ℕ) (room : ℕ) (bytes : List ℕ) (d : Result Decision Refusal) → DecidedAs v p image room bytes [] d → CanTable image room d
 can-table v p image room bytes (Err c) h = tt
 can-table v p image room bytes (Ok decision.Nothing) h = tt
 can-table v p image room bytes (Ok (decision.Clip n at)) h = tt
@@ -156,29 +156,59 @@ module _ (ed : Edit) (place : IsPlaceEdit ed) (image : List ℕ) (b : AllBytes i
 
 -- ---- by what the code did
 
-module _ (ed : Edit) (place : IsPlaceEdit ed) (team : ℕ) (image words bytes b : List ℕ) (t t' : Totals) (d : Result Decision Refusal) (all : AllBytes image)
-    (f : IsAccountedFor (plan_behind (first (opening image (length words)) (team_verdict team)) (plan_of ed (disc_of image))) image (length words) (length bytes) b [] (account t team) (account_with d t')) (image' words' bytes' : List ℕ) (zw : words' ≡ zeros words) (zb : bytes' ≡ zeros bytes) where
+-- an edit x of the code, which is the edit ed, was decided on in words₁ and bytes₁, which hold what words and bytes do
+module _ (x : declared.Edit) (ed : Edit) (same : edit_of x ≡ ed) (place : IsPlaceEdit ed) (team : ℕ) (image words words₁ bytes bytes₁ b : List ℕ) (lent : words₁ ≡ words) (lent-bytes : bytes₁ ≡ bytes) (t t' : Totals)
+    (d : Result Decision Refusal) (all : AllBytes image)
+    (g : IsAccountedFor (plan_behind (first (opening image (length words₁)) (team_verdict team)) (plan_of (edit_of x) (disc_of image))) image (length words₁) (length bytes₁) b (clip_of x) (account t team) (account_with d t')) where
+  f : IsAccountedFor (plan_behind (first (opening image (length words)) (team_verdict team)) (plan_of ed (disc_of image))) image (length words) (length bytes) b [] (account t team) (account_with d t')
+  f = rw (without-clip x ed same place, same, lent, lent-bytes) at g
+
+  abbrev verdict : Verdict
+  verdict = verdict_of ed (account t team) image (length words) (length bytes)
+
+  told : IsDone verdict (plan_of ed (disc_of image)) image b d × (t' ≡ totals_after ed (account t team) image (length words) (length bytes))
+  told = whole ed place image all (length words) (length bytes) b (account t team) t' d f
+
+  -- ---- the copy
+
   pub can-be-copied : CanCopy image d
   can-be-copied = can-copy _ _ image (length bytes) b d f.decided
 
-  pub can-be-tabled : CanTable image (length bytes) d
-  can-be-tabled = can-table _ _ image (length bytes) b d f.decided
-
-  pub made-copy : image' ≡ copied_by d image → (r : Verdict) → r ≡ carried_verdict d → MakesCopy own_verdict ed team (loan image words bytes t) (loan image' words' bytes' t) r
+  copied-is : (image' : List ℕ) → image' ≡ copied_by d image → image' ≡ image_after_copy ed (account t team) image (length words) (length bytes)
   unfolding image_after_copy
-  made-copy i r q =
-      let e = (whole ed place image all (length words) (length bytes) b (account t team) t' d f).0 in
-      record { answered = q ∙ e.answer; image = i ∙ e.copied; totals = refl; words = zw; bytes = zb }
+  copied-is image' i = i ∙ told.0.copied
 
-  pub wrote-table : image' ≡ tabled_by d b image → (r : Result DiscRegion Refusal) →
-      r ≡ span_behind (verdict_of ed (account t team) image (length words) (length bytes)) (plan_span (plan_of ed (disc_of image))) → WritesTable span_behind ed team (loan image words bytes t) (loan image' words' bytes' t') r
+  pub made-copy : (image' words' bytes' : List ℕ) → image' ≡ copied_by d image → words' ≡ zeros words → bytes' ≡ zeros bytes → (r : Verdict) → r ≡ carried_verdict d →
+      MakesCopy own_verdict ed team (loan image words bytes t) (loan image' words' bytes' t) r
+  made-copy image' words' bytes' i zw zb r q = record { answered = q ∙ told.0.answer; image = copied-is image' i; totals = refl; words = zw; bytes = zb }
+
+  pub only-copied : (image' : List ℕ) → image' ≡ copied_by d image → DifferOnlyIn image image' (plan_copy (plan_of ed (disc_of image)))
+  only-copied image' i =
+      subst (λ (x : List ℕ). DifferOnlyIn image x (plan_copy (plan_of ed (disc_of image)))) (sym (copied-is image' i)) (own-copy ed (account t team) image (length words) (length bytes) place all)
+
+  -- ---- the table
+
+  pub can-be-tabled : length b ≡ length bytes₁ → CanTable image (length b) d
+  can-be-tabled e = rw (e, lent-bytes) (can-table _ _ image (length bytes) b d f.decided)
+
+  tabled-is : (image' : List ℕ) → image' ≡ tabled_by d b image → image' ≡ image_after_table ed (account t team) image (length words) (length bytes)
   unfolding image_after_table
-  wrote-table i r q =
-      let e = whole ed place image all (length words) (length bytes) b (account t team) t' d f in
-      record { answered = q; image = i ∙ e.0.tabled; totals = e.1; words = zw; bytes = zb }
+  tabled-is image' i = i ∙ told.0.tabled
 
-  pub told : (s : Span) → lost_by d ≡ Ok s → (Ok (span_region s) ≡ span_behind (verdict_of ed (account t team) image (length words) (length bytes)) (plan_span (plan_of ed (disc_of image)))) × IsOnDisc s
-  told = (whole ed place image all (length words) (length bytes) b (account t team) t' d f).0.told
+  pub wrote-table : (image' words' bytes' : List ℕ) → image' ≡ tabled_by d b image → words' ≡ zeros words → bytes' ≡ zeros bytes →
+      (r : Result DiscRegion Refusal) → r ≡ span_behind verdict (plan_span (plan_of ed (disc_of image))) → WritesTable span_behind ed team (loan image words bytes t) (loan image' words' bytes' t') r
+  wrote-table image' words' bytes' i zw zb r q = record { answered = q; image = tabled-is image' i; totals = told.1; words = zw; bytes = zb }
 
-  pub not-told : (c : Refusal) → lost_by d ≡ Err c → Err c ≡ span_behind (verdict_of ed (account t team) image (length words) (length bytes)) (plan_span (plan_of ed (disc_of image)))
-  not-told = (whole ed place image all (length words) (length bytes) b (account t team) t' d f).0.refusal
+  pub only-tabled : (image' : List ℕ) → image' ≡ tabled_by d b image → DifferOnlyInTable image image' (length (encode (plan_tree (plan_of ed (disc_of image)) (nodes_in image))))
+  only-tabled image' i =
+      subst (λ (x : List ℕ). DifferOnlyInTable image x (length (encode (plan_tree (plan_of ed (disc_of image)) (nodes_in image))))) (sym (tabled-is image' i)) (own-table ed (account t team) image (length words) (length bytes) place all)
+
+  -- the span that is left, or the refusal, by the answer of the table
+  pub span-told : (r : Result Span Refusal) (s : Span) → r ≡ lost_by d → r ≡ Ok s → Ok (span_region s) ≡ span_behind verdict (plan_span (plan_of ed (disc_of image)))
+  span-told r s p q = (told.0.told s (sym p ∙ q)).0
+
+  pub on-disc : (r : Result Span Refusal) (s : Span) → r ≡ lost_by d → r ≡ Ok s → IsOnDisc s
+  on-disc r s p q = (told.0.told s (sym p ∙ q)).1
+
+  pub not-told : (r : Result Span Refusal) (c : Refusal) → r ≡ lost_by d → r ≡ Err c → Err c ≡ span_behind verdict (plan_span (plan_of ed (disc_of image)))
+  not-told r c p q = told.0.refusal c (sym p ∙ q)

@@ -1,19 +1,20 @@
 -- The third call: the verdict by what the open disc tells, and the zeros. Assumes nothing.
 use Rattle.std.specs.Prelude.{Ok, Err, ℕ, ◌<◌, ◌≤◌, ◌≡◌, List, length, replicate}
-use Rattle.std.proofs.Common.{sym, ap, ◌∙◌, arith, lt-ltb, le-ltb, ltb-false}
+use Rattle.std.proofs.Common.{sym, ap, subst, ◌∙◌, lt-ltb, le-ltb}
 use Rattle.endian.specs.Bytes.{put, AllBytes}
 use Rattle.refusal.specs.declared.Refusal.{Refusal}
 use Rattle.refusal.specs.declared.Refusal.TheVariants.{SpanNotFree}
-use Rattle.refusal.specs.Laws.Chains.{first-passed, refuse-passed}
-use Rattle.header.specs.Verdicts.{disc_end}
+use Rattle.refusal.specs.Refusal.{Verdict}
 use Rattle.space.specs.declared.region.DiscRegion.{DiscRegion}
 use Rattle.space.specs.MaxRegionSize.{max_region_size}
-use Rattle.space.specs.Laws.GrowthLaws.{place-free}
-use Rattle.opened.specs.Opening.{used_in, free_space_of, opening, Disc, disc_of, free_of}
+use Rattle.opened.specs.Opening.{free_space_of, opening, Disc, free_of}
 use Rattle.opened.specs.Inner.Disc.{Opened, Means}
-use Rattle.ledger.proofs.Laws.Opened.{opened}
 use Rattle.edit.specs.Inner.Decision.{ZeroFits}
 use Rattle.steps.specs.Parts.{zero_verdict, image_after_zeros}
+use Rattle.steps.specs.Places.{DifferOnlyIn}
+use Rattle.steps.specs.Promise.{ZeroesWhatIsFree}
+use Rattle.steps.proofs.Laws.OwnParts.{span-fits, own-zeros}
+use Rattle.steps.proofs.Laws.WhollyFree.{zeroes-what-is-free}
 
 -- ---- the test
 
@@ -43,11 +44,7 @@ module _ (image : List ℕ) (words : ℕ) (d : Opened) (o : Means image d × (d.
 module _ (image : List ℕ) (words : ℕ) (span : DiscRegion) where
   -- a span that passes lies in the image
   pub zeros-fit : AllBytes image → zero_verdict image words span ≡ Ok tt → ZeroFits (length image) span.offset span.size
-  unfolding zero_verdict
-  zeros-fit b v =
-      let p = first-passed (opening image words) _ v in
-      let q = ltb-false (max_region_size span.offset 0 (free_space_of image)) span.size (refuse-passed _ SpanNotFree (Ok tt) p.1).0 in
-      record { into = λ z. omega (arith, (place-free (disc_end image) (used_in image) span.offset span.size z q).0, (opened image words p.0 b).bounds.image_holds) }
+  zeros-fit b v = record { into = span-fits image words span b v }
 
   pub zeroed : (image' : List ℕ) → zero_verdict image words span ≡ Ok tt → image' ≡ put image span.offset (replicate span.size 0) → image' ≡ image_after_zeros image words span
   unfolding image_after_zeros
@@ -56,3 +53,9 @@ module _ (image : List ℕ) (words : ℕ) (span : DiscRegion) where
   pub left : (c : Refusal) → zero_verdict image words span ≡ Err c → image ≡ image_after_zeros image words span
   unfolding image_after_zeros
   left c v = rw v
+
+  pub only-free : (r : Verdict) → r ≡ zero_verdict image words span → ZeroesWhatIsFree image words span r
+  only-free r e = subst (λ (v : Verdict). ZeroesWhatIsFree image words span v) (sym e) (zeroes-what-is-free image words span)
+
+  pub only-zeroed : AllBytes image → (image' : List ℕ) → image' ≡ image_after_zeros image words span → DifferOnlyIn image image' span
+  only-zeroed b image' e = subst (λ (x : List ℕ). DifferOnlyIn image x span) (sym e) (own-zeros image words span b)

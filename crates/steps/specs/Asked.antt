@@ -1,5 +1,5 @@
 -- The edit that a value of `steps::PlaceEdit` asks for. Assumes nothing: these are definitions.
-use Rattle.std.specs.Prelude.{ℕ, ◌^◌, ◌<◌}
+use Rattle.std.specs.Prelude.{◌^◌, ◌<◌}
 use Rattle.edit_rules.specs.Edits as edits
 use Rattle.edit_rules.specs.Edits.{insert_file, insert_directory, make_directories, move_file, resize_file, fill_file, rewrite}
 use Rattle.steps.specs.declared.place_edit.PlaceEdit.{PlaceEdit}

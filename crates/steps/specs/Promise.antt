@@ -7,7 +7,7 @@ use Rattle.space.specs.declared.region.DiscRegion.{DiscRegion}
 use Rattle.opened.specs.Opening.{zeros, opening, disc_of}
 use Rattle.edit_rules.specs.Edits.{Edit, account, plan_of, verdict_of, totals_after}
 use Rattle.edit_rules.specs.Promise.{Loan}
-use Rattle.steps.specs.Parts.{plan_span, image_after_copy, image_after_table, zero_verdict, image_after_zeros}
+use Rattle.steps.specs.Parts.{plan_span, image_after_copy, image_after_table}
 use Rattle.steps.specs.Places.{IsWhollyFree}
 
 -- the verdict itself, as a call in Rust gives it

@@ -18,7 +18,7 @@ use refusal::{Refusal, Verdict};
 use space::DiscRegion;
 use totals::Totals;
 
-// What the bytes of an image are is known of a parameter, and not once it is written.
+// That an image is of bytes is known of a parameter that is only read.
 fn of_bytes(image: &[u8])
     ensures { AllBytes image.now }
 {}

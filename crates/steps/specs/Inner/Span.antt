@@ -1,5 +1,5 @@
 -- What an edit leaves to be zeroed, as a region. Assumes nothing: these are definitions.
-use Rattle.std.specs.Prelude.{ℕ, ◌+◌, ◌<◌, ◌^◌, nat_lt, if◌then◌else◌}
+use Rattle.std.specs.Prelude.{◌+◌, ◌<◌, ◌^◌, nat_lt, if◌then◌else◌}
 use Rattle.space.specs.declared.region.DiscRegion.{DiscRegion}
 use Rattle.space.specs.Used.{no_region}
 use Rattle.edit.specs.declared.decision.Span.{Span}
