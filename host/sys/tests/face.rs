@@ -601,6 +601,7 @@ impl Parts {
     }
 
     fn copy(&mut self, moves: bool, number: u32, to: u32) -> u32 {
+        self.span.mark();
         let (i, w, b) = (self.image.slice_mut(), self.words.slice_mut(), self.bytes.slice_mut());
         let (record, team) = (self.record.slots(), self.team);
         let before = *record;
