@@ -7,6 +7,7 @@ each call its number, and a table's span, are written by hand as well, and the t
 up as the reading goes on. Wherever the three are made in their order, image and record at last have to be those of the single edit."""
 import copy
 import functools
+import struct
 
 import masters
 from teams import A, EDITS, MOST, OPEN, TEAMS, WHY, Disc, Random, Refusal, Script, n, refuse, with_table
@@ -298,6 +299,34 @@ def where_files_lie(s):
     s.table(RESIZE, 1, 0x101, number=0, span=(0x500, 0x100), why="without the copy")
 
 
+def a_longer_table(s):
+    s.heading("two files share the text of their names: the table has 38 bytes, and written anew 40")
+
+    def image(first, second):
+        table = struct.pack(">9I", 1 << 24, 0, 3, 0, first, 0x10, 0, second, 0x10) + b"a\0"
+        s.image(Disc(0x2000, [(b"a", first, 0x10), (b"a", second, 0x10)], table=table))
+
+    image(0x500, 0x700)
+    for edit, span in [((MOVE, 2, 0x468), (0x700, 0x10)), ((RESIZE, 1, 15), (0x50F, 1)), ((RESIZE, 1, 17), (0, 0)), ((RESIZE, 1, 16), (0, 0))]:
+        s.load()
+        s.all_three(*edit, number=0, span=span)
+    for at in (0x466, 0x467):
+        s.load()
+        s.copy(MOVE, 2, at, number=21, why="the table would reach the file")
+        s.table(MOVE, 2, at, number=21, why="the table would reach the file")
+    s.lend(20, 39)
+    s.copy(MOVE, 2, 0x468, number=9)
+    s.table(MOVE, 2, 0x468, number=9)
+    s.lend(20, 40)
+    s.all_three(MOVE, 2, 0x468, number=0, span=(0x700, 0x10))
+    s.lend()
+    for first, number in [(0x466, 21), (0x467, 21), (0x468, 0)]:
+        image(first, 0x700)
+        why = "" if number == 0 else "the table has no room, though the file goes"
+        s.copy(MOVE, 1, 0x800, number=number, why=why)
+        s.table(MOVE, 1, 0x800, number=number, why=why)
+
+
 def spans(s):
     s.heading("spans: to the end of a free region and of the disc, a byte past them, and over a file")
     s.image(Disc(0x2000, [A, (b"e", 0x700, 0), (b"z", 0x1000, 0x10)]))
@@ -369,7 +398,7 @@ def made_up(s, random, calls):
 
 def main():
     s = Steps()
-    for part in (on_the_small_master, in_any_order, refused, with_a_record, where_files_lie, spans):
+    for part in (on_the_small_master, in_any_order, refused, with_a_record, where_files_lie, a_longer_table, spans):
         part(s)
     s.lend(400, 2000)
     random = Random(10)
