@@ -55,6 +55,12 @@ def span_of(old, new, number):
     return (was.offset + kept, was.size - kept) if was.size > kept else (0, 0)
 
 
+def with_slack(length, files, slack, maximum=0):
+    """Behind the names stand bytes that none of them uses."""
+    table = Disc(length, files).table() + (b"slack" * slack)[:slack - 1] + b"\0"
+    return Disc(length, files, maximum=maximum, table=table)
+
+
 # ---- the script
 
 
@@ -212,7 +218,7 @@ def refused(s):
     s.lend()
     s.heading("a maximum of 26 bytes: just the table, with 6 bytes behind its texts; then of 25")
     for maximum, number in [(26, 0), (25, 26)]:
-        s.image(Disc(0x2000, [A], slack=6, maximum=maximum))
+        s.image(with_slack(0x2000, [A], 6, maximum))
         for edit in [(MOVE, 1, 1536), (RESIZE, 1, 100), (RESIZE, 1, 300)]:
             s.load()
             both(*edit, number=number)
@@ -276,7 +282,7 @@ def with_a_record(s):
 
 def where_files_lie(s):
     s.heading("empty files: nowhere, past the image, and grown to another place")
-    s.image(Disc(0x9000, [A, (b"b", 0x600, 0x10), (b"e", 0x508, 0)], slack=6))
+    s.image(with_slack(0x9000, [A, (b"b", 0x600, 0x10), (b"e", 0x508, 0)], 6))
     s.all_three(MOVE, 3, 0, number=0, span=(0, 0))
     s.all_three(MOVE, 3, MOST, number=0, span=(0, 0))
     s.all_three(MOVE, 3, MOST, number=0, span=(0, 0))
@@ -403,8 +409,8 @@ def main():
     s.lend(400, 2000)
     random = Random(10)
     discs = [Disc(0x2000, [A]), Disc(0x2000, [A, (b"x", 0x1234, 0), (b"y", 0x1800, 0x123)]),
-             Disc(0x2000, [(b"b", 0x700, 0x900), A, (b"c", 0x1010, 0xF00)], slack=9, maximum=54),
-             Disc(0x9000, [A, (b"b", 0x600, 0x10), (b"c", 0x8800, 0x700), (b"e", 0, 0)], slack=6)]
+             with_slack(0x2000, [(b"b", 0x700, 0x900), A, (b"c", 0x1010, 0xF00)], 9, 54),
+             with_slack(0x9000, [A, (b"b", 0x600, 0x10), (b"c", 0x8800, 0x700), (b"e", 0, 0)], 6)]
     for number, disc in enumerate([*discs[:3], *discs[:3], discs[3], discs[3]], 1):
         s.heading(f"made up: list {number}")
         s.image(disc)
