@@ -397,7 +397,8 @@ def made_up(s, random, calls):
             s.edit(*edit)
         else:
             size = random.of((0, 1, free[1], free[1] + 1, 1 + random.below(free[1] + 1), MOST - free[0]))
-            s.zero(*random.of([(free[0], size), (free[0] + random.below(free[1] + 1), size), (node.offset, node.size), (max(1, free[0]) - 1, size), left]))
+            inside = free[0] + random.below(free[1] + 1)
+            s.zero(*random.of([(free[0], size), (inside, size), (node.offset, node.size), (max(1, free[0]) - 1, size), left]))
     s.takes()
     s.carries(0)
 
