@@ -7,6 +7,7 @@ each call its number, and a table's span, are written by hand as well, and the t
 up as the reading goes on. Wherever the three are made in their order, image and record at last have to be those of the single edit."""
 import copy
 import functools
+import struct
 
 import masters
 from teams import A, EDITS, MOST, OPEN, TEAMS, WHY, Disc, Random, Refusal, Script, n, refuse, with_table
@@ -52,6 +53,12 @@ def span_of(old, new, number):
     was, is_, goes = places(old, new, number)
     kept = 0 if goes else min(was.size, is_.size)
     return (was.offset + kept, was.size - kept) if was.size > kept else (0, 0)
+
+
+def with_slack(length, files, slack, maximum=0):
+    """Behind the names stand bytes that none of them uses."""
+    table = Disc(length, files).table() + (b"slack" * slack)[:slack - 1] + b"\0"
+    return Disc(length, files, maximum=maximum, table=table)
 
 
 # ---- the script
@@ -211,7 +218,7 @@ def refused(s):
     s.lend()
     s.heading("a maximum of 26 bytes: just the table, with 6 bytes behind its texts; then of 25")
     for maximum, number in [(26, 0), (25, 26)]:
-        s.image(Disc(0x2000, [A], slack=6, maximum=maximum))
+        s.image(with_slack(0x2000, [A], 6, maximum))
         for edit in [(MOVE, 1, 1536), (RESIZE, 1, 100), (RESIZE, 1, 300)]:
             s.load()
             both(*edit, number=number)
@@ -275,7 +282,7 @@ def with_a_record(s):
 
 def where_files_lie(s):
     s.heading("empty files: nowhere, past the image, and grown to another place")
-    s.image(Disc(0x9000, [A, (b"b", 0x600, 0x10), (b"e", 0x508, 0)], slack=6))
+    s.image(with_slack(0x9000, [A, (b"b", 0x600, 0x10), (b"e", 0x508, 0)], 6))
     s.all_three(MOVE, 3, 0, number=0, span=(0, 0))
     s.all_three(MOVE, 3, MOST, number=0, span=(0, 0))
     s.all_three(MOVE, 3, MOST, number=0, span=(0, 0))
@@ -296,6 +303,34 @@ def where_files_lie(s):
     s.copy(RESIZE, 1, 0x1001, number=21)
     s.table(RESIZE, 1, 0x1001, number=21)
     s.table(RESIZE, 1, 0x101, number=0, span=(0x500, 0x100), why="without the copy")
+
+
+def a_longer_table(s):
+    s.heading("two files share the text of their names: the table has 38 bytes, and written anew 40")
+
+    def image(first, second):
+        table = struct.pack(">9I", 1 << 24, 0, 3, 0, first, 0x10, 0, second, 0x10) + b"a\0"
+        s.image(Disc(0x2000, [(b"a", first, 0x10), (b"a", second, 0x10)], table=table))
+
+    image(0x500, 0x700)
+    for edit, span in [((MOVE, 2, 0x468), (0x700, 0x10)), ((RESIZE, 1, 15), (0x50F, 1)), ((RESIZE, 1, 17), (0, 0)), ((RESIZE, 1, 16), (0, 0))]:
+        s.load()
+        s.all_three(*edit, number=0, span=span)
+    for at in (0x466, 0x467):
+        s.load()
+        s.copy(MOVE, 2, at, number=21, why="the table would reach the file")
+        s.table(MOVE, 2, at, number=21, why="the table would reach the file")
+    s.lend(20, 39)
+    s.copy(MOVE, 2, 0x468, number=9)
+    s.table(MOVE, 2, 0x468, number=9)
+    s.lend(20, 40)
+    s.all_three(MOVE, 2, 0x468, number=0, span=(0x700, 0x10))
+    s.lend()
+    for first, number in [(0x466, 21), (0x467, 21), (0x468, 0)]:
+        image(first, 0x700)
+        why = "" if number == 0 else "the table has no room, though the file goes"
+        s.copy(MOVE, 1, 0x800, number=number, why=why)
+        s.table(MOVE, 1, 0x800, number=number, why=why)
 
 
 def spans(s):
@@ -362,20 +397,21 @@ def made_up(s, random, calls):
             s.edit(*edit)
         else:
             size = random.of((0, 1, free[1], free[1] + 1, 1 + random.below(free[1] + 1), MOST - free[0]))
-            s.zero(*random.of([(free[0], size), (free[0] + random.below(free[1] + 1), size), (node.offset, node.size), (max(1, free[0]) - 1, size), left]))
+            inside = free[0] + random.below(free[1] + 1)
+            s.zero(*random.of([(free[0], size), (inside, size), (node.offset, node.size), (max(1, free[0]) - 1, size), left]))
     s.takes()
     s.carries(0)
 
 
 def main():
     s = Steps()
-    for part in (on_the_small_master, in_any_order, refused, with_a_record, where_files_lie, spans):
+    for part in (on_the_small_master, in_any_order, refused, with_a_record, where_files_lie, a_longer_table, spans):
         part(s)
     s.lend(400, 2000)
     random = Random(10)
     discs = [Disc(0x2000, [A]), Disc(0x2000, [A, (b"x", 0x1234, 0), (b"y", 0x1800, 0x123)]),
-             Disc(0x2000, [(b"b", 0x700, 0x900), A, (b"c", 0x1010, 0xF00)], slack=9, maximum=54),
-             Disc(0x9000, [A, (b"b", 0x600, 0x10), (b"c", 0x8800, 0x700), (b"e", 0, 0)], slack=6)]
+             with_slack(0x2000, [(b"b", 0x700, 0x900), A, (b"c", 0x1010, 0xF00)], 9, 54),
+             with_slack(0x9000, [A, (b"b", 0x600, 0x10), (b"c", 0x8800, 0x700), (b"e", 0, 0)], 6)]
     for number, disc in enumerate([*discs[:3], *discs[:3], discs[3], discs[3]], 1):
         s.heading(f"made up: list {number}")
         s.image(disc)

@@ -30,11 +30,11 @@ class Node:
 
 
 class Disc:
-    def __init__(self, length, files, slack=0, maximum=0):
-        """A header, a table of these files of the root with some bytes behind its texts, and what the free space holds."""
+    def __init__(self, length, files, slack=0, maximum=0, table=None):
+        """A header, a table of these files of the root with some bytes behind its texts, or one in other bytes, and what the free space holds."""
         self.end, self.maximum = length, maximum
         self.root = Node(b"", [Node(name, None, offset, size) for name, offset, size in files])
-        table = self.table() + bytes(slack)
+        table = table or self.table() + bytes(slack)
         self.table_size = len(table)
         image = bytearray(TABLE) + table + (b"free" * length)[:length - TABLE - len(table)]
         struct.pack_into(">I", image, 0x1C, 0xC2339F3D)

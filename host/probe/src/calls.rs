@@ -150,17 +150,18 @@ fn changed(now: &[u8], before: &[u8]) -> Range<usize> {
     start..now.len() - behind.unwrap_or(0)
 }
 
-/// The two are the same outside these ranges.
+/// The two are the same outside these ranges, which may lie past them; they are as long as each other.
 fn same_but_in<const N: usize>(one: &[u8], other: &[u8], mut ranges: [Range<usize>; N]) -> bool {
     ranges.sort_by_key(|range| range.start);
     let mut at = 0;
     for range in ranges {
-        if at < range.start && one.get(at..range.start) != other.get(at..range.start) {
+        let start = range.start.min(one.len());
+        if at < start && one[at..start] != other[at..start] {
             return false;
         }
-        at = at.max(range.end);
+        at = at.max(range.end.min(one.len()));
     }
-    one.get(at..) == other.get(at..)
+    one[at..] == other[at..]
 }
 
 /// One of the free regions holds all of it.
@@ -808,6 +809,29 @@ mod tests {
             assert!(matches!(lender.totals_afresh(), Err(Stop::Dirty(_))), "{}", image.len());
         }
     }
+
+    /// What differs lies in these ranges, in any order, over each other or past the end.
+    #[test]
+    fn what_changed_is_told() {
+        let before = [0; 8];
+        for (places, told) in [(&[][..], 0..0), (&[0], 0..1), (&[7], 7..8), (&[2, 5], 2..6)] {
+            let mut now = before;
+            places.iter().for_each(|place| now[*place] = 1);
+            assert_eq!(changed(&now, &before), told);
+            assert!(same_but_in(&now, &before, [told.clone()]));
+            assert!(same_but_in(&now, &before, [9..9, told.clone(), 0..0]));
+            assert!(same_but_in(&now, &before, [3..99, told.clone(), 1..4]));
+            for place in places {
+                let (first, behind) = (0..*place, place + 1..99);
+                assert!(!same_but_in(&now, &before, [behind, first]));
+            }
+            assert_eq!(same_but_in(&now, &before, [1 << 40..1 << 41]), told.is_empty());
+        }
+        let free = [[2, 3], [6, 1]];
+        assert!(is_free(&free, &(2..5)) && is_free(&free, &(6..7)));
+        assert!(!is_free(&free, &(1..3)) && !is_free(&free, &(4..7)) && !is_free(&free, &(6..8)));
+    }
+
     /// Used bytes move as the image's, the team's taken bytes too, but to 0 at least; the others stay.
     #[test]
     fn a_record_moves() {

@@ -1348,7 +1348,20 @@ fn edits_in_three_calls() {
         (&["move_table 1 2048", "zero 1280 756"], "ok"),
         (&["move_table 1 2048", "zero 2048 1"], "err 29"),
     ]);
-    // In the words of PROBE-POINTS: of a file of 756 bytes.
+    // The table's last six bytes are slack, which a table that is written zeroes; it tells its size.
+    const SLACK: &str = "patch 0x45a 736c61636b00";
+    const SIZE: &str = "patch 0x428 00000020";
+    hold(&[
+        (&[SLACK, SIZE, "move_copy 1 1536", "peek 0x45a 6"], "ok 736c61636b00"),
+        (&[SLACK, SIZE, "move_copy 1 1536", "peek 0x428 4"], "ok 00000020"),
+        (&[SLACK, SIZE, "move_table 1 1536", "peek 0x45a 6"], "ok 000000000000"),
+        (&[SLACK, SIZE, "move_table 1 1536", "peek 0x428 4"], "ok 0000001a"),
+        (&[SLACK, SIZE, "resize_table 1 256", "peek 0x45a 6"], "ok 736c61636b00"),
+        (&[SLACK, SIZE, "zero 0x460 160"], "ok"),
+        (&[SLACK, SIZE, "zero 0x45f 161"], "err 29"),
+        (&[SLACK, SIZE, "resize_table 1 257", "zero 0x45f 161"], "ok"),
+    ]);
+    // Of a file of 756 bytes.
     hold(&[
         (&["resize 1 756", "move_copy 1 2048", "move_table 1 2048"], "ok 1280 756"),
         (

@@ -601,6 +601,7 @@ impl Parts {
     }
 
     fn copy(&mut self, moves: bool, number: u32, to: u32) -> u32 {
+        self.span.mark();
         let (i, w, b) = (self.image.slice_mut(), self.words.slice_mut(), self.bytes.slice_mut());
         let (record, team) = (self.record.slots(), self.team);
         let before = *record;
@@ -671,6 +672,49 @@ fn each_call_writes_its_own_part() {
         assert_eq!((parts.span.slice(), parts.record.slice()), (&span[..], &back.slots()[..]));
         assert_eq!(parts.zero(span[0], span[1]), 0);
         assert!(parts.image.slice() == whole);
+
+        // The table without the copy, and with six bytes behind its text, which become zero.
+        let mut parts = Parts::of(TEAM, record(5000, 3, 300, 8));
+        put(parts.image.slice_mut(), 0x428, &[0, 0, 0, 0x20]);
+        put(parts.image.slice_mut(), 0x45a, b"slack\0");
+        let written = to != 0x100;
+        let mut wanted = if written { start } else { parts.image.slice().to_vec() };
+        wanted[0x44c..0x45a].copy_from_slice(&whole[0x44c..0x45a]);
+        assert_eq!(parts.table(moves, 1, to), 0);
+        assert!(parts.image.slice() == wanted);
+        assert_eq!(parts.span.slice(), span);
+    }
+}
+
+/// The span ends where its offset and its size say, as whole numbers.
+#[test]
+fn zeros_where_all_is_free() {
+    let mut parts = Parts::of(TEAM, record(0, 0, 0, 0));
+    let start = parts.image.slice().to_vec();
+    for (offset, size) in [
+        (0, 1),
+        (0x459, 1),
+        (0x45a, 0xa7),
+        (0x45a, 0x1ba6),
+        (0x500, 0x100),
+        (0x600, 0x1a01),
+        (0x600, 0xffff_fa00),
+        (0x600, 0xffff_ffff),
+        (0x2000, 1),
+        (u32::MAX, 1),
+        (u32::MAX, u32::MAX),
+    ] {
+        assert_eq!(parts.zero(offset, size), 29, "{offset:#x} {size:#x}");
+    }
+    for offset in [0, 0x500, 0x2000, 0x2001, u32::MAX] {
+        assert_eq!(parts.zero(offset, 0), 0, "{offset:#x}");
+    }
+    assert!(parts.image.slice() == start);
+    let mut wanted = start;
+    for (offset, size) in [(0x45a, 0xa6), (0x700, 1), (0x1fff, 1), (0x600, 0x1a00)] {
+        assert_eq!(parts.zero(offset, size), 0, "{offset:#x} {size:#x}");
+        wanted[offset as usize..(offset + size) as usize].fill(0);
+        assert!(parts.image.slice() == wanted, "{offset:#x} {size:#x}");
     }
 }
 
