@@ -686,4 +686,5 @@ def main():
         made_up(s, random, 50)
 
 
-main()
+if __name__ == "__main__":
+    main()

@@ -1,8 +1,8 @@
 //! The calls, each with everything it is lent between margins, and what it promises of them held
 //! to afterwards: working memory zero; the image as it was, unless an edit was accepted; list words
 //! past the answer, and on a refusal all slots, lists and the record, as they were; after an accepted
-//! edit the record as the image's totals have moved, and in it the edit's own team alone; behind the
-//! disc end of a new master all as it was.
+//! edit the record as the image's totals have moved, and in it the edit's own team alone; of a part of an
+//! edit its own bytes alone, and refused as the edit is; behind the disc end of a new master all as it was.
 
 use crate::language::{Answer, Stop};
 use crate::zeros::Zeros;
@@ -11,6 +11,7 @@ use counter_sys::guarded::{Element, Guarded};
 use counter_sys::{
     CLUSTER_WORDS, DOL_WORDS, HEADER_SIZE, RECORD_WORDS, REGION_WORDS, Record, TEAMS, Team, call,
 };
+use std::ops::Range;
 
 /// Words of a list lent beyond what an answer takes.
 const SPARE: usize = 3;
@@ -59,11 +60,58 @@ pub const CLUSTERS: PerRegion = PerRegion {
     },
 };
 
-/// What a call does with the image; a new master is written as an edit is.
+/// An edit of a file or a part of one, on the image, the words, the bytes, the record, the team and two numbers.
+type OfFile<const N: usize> = fn(
+    &mut [u8],
+    &mut [u32],
+    &mut [u8],
+    &mut [u32; RECORD_WORDS],
+    u32,
+    [u32; 2],
+    &mut [u32; N],
+) -> u32;
+
+/// An edit that can be made in parts.
+#[derive(Clone, Copy)]
+pub struct InParts {
+    whole: OfFile<0>,
+    copy: OfFile<0>,
+    table: OfFile<2>,
+}
+
+macro_rules! in_parts {
+    ($whole:ident, $copy:ident, $table:ident) => {
+        InParts {
+            whole: |i, w, b, record, team, [number, to], _| unsafe {
+                call!($whole(mut i, mut w, mut b, = record, = team, = number, = to))
+            },
+            copy: |i, w, b, record, team, [number, to], _| unsafe {
+                call!($copy(mut i, mut w, mut b, = record, = team, = number, = to))
+            },
+            table: |i, w, b, record, team, [number, to], span| unsafe {
+                call!($table(mut i, mut w, mut b, = record, = team, = number, = to, = span))
+            },
+        }
+    };
+}
+
+pub const MOVE: InParts = in_parts!(counter_move_file, counter_move_copy, counter_move_table);
+pub const RESIZE: InParts =
+    in_parts!(counter_resize_file, counter_resize_copy, counter_resize_table);
+
+/// What a call does with the image; a new master is written as an edit is, and zeros want no working bytes.
 #[derive(Clone, Copy, PartialEq)]
 enum Does {
     Look,
     Edit,
+    Zero,
+}
+
+/// What an accepted call does with the record.
+#[derive(Clone, Copy, PartialEq)]
+enum OfRecord {
+    Moves,
+    Stays,
 }
 
 fn hold(fact: bool, what: &'static str) -> Answer<()> {
@@ -85,6 +133,41 @@ fn moved(given: Record, team: u32, cost: i64, largest: u32) -> Option<Record> {
     team.taken = moved(team.taken).max(0).try_into().ok()?;
     team.edits = team.edits.checked_add(1)?;
     Some(record)
+}
+
+/// A word of an image that a call accepted, so that it is there.
+fn word(image: &[u8], at: usize) -> Answer<u32> {
+    let word = image.get(at..).and_then(|rest| rest.first_chunk());
+    word.map(|word| u32::from_be_bytes(*word)).ok_or(Stop::Dirty("image: does not open"))
+}
+
+/// The least range outside of which the two are the same; they are as long as each other.
+fn changed(now: &[u8], before: &[u8]) -> Range<usize> {
+    let Some(start) = now.iter().zip(before).position(|(a, b)| a != b) else {
+        return 0..0;
+    };
+    let behind = now.iter().rev().zip(before.iter().rev()).position(|(a, b)| a != b);
+    start..now.len() - behind.unwrap_or(0)
+}
+
+/// The two are the same outside these ranges.
+fn same_but_in<const N: usize>(one: &[u8], other: &[u8], mut ranges: [Range<usize>; N]) -> bool {
+    ranges.sort_by_key(|range| range.start);
+    let mut at = 0;
+    for range in ranges {
+        if at < range.start && one.get(at..range.start) != other.get(at..range.start) {
+            return false;
+        }
+        at = at.max(range.end);
+    }
+    one.get(at..) == other.get(at..)
+}
+
+/// One of the free regions holds all of it.
+fn is_free(free: &[[u32; REGION_WORDS]], part: &Range<usize>) -> bool {
+    free.iter()
+        .map(|region| region.map(|n| n as usize))
+        .any(|[offset, size]| offset <= part.start && part.end <= offset + size)
 }
 
 impl Lender {
@@ -147,10 +230,25 @@ impl Lender {
         })
     }
 
-    /// An edit with `N` slots for its answer. It takes the record in use, and the team; where there is none, a
-    /// fresh one of the image, in which team 0 may take anything, and this is dropped.
     fn edit<const N: usize>(
         &mut self,
+        run: impl FnOnce(
+            &mut [u8],
+            &mut [u32],
+            &mut [u8],
+            &mut [u32; RECORD_WORDS],
+            u32,
+            &mut [u32; N],
+        ) -> u32,
+    ) -> Answer<[u32; N]> {
+        self.with_record(OfRecord::Moves, run)
+    }
+
+    /// An edit with `N` slots for its answer, or a part of one. It takes the record in use, and the team; where
+    /// there is none, a fresh one of the image, in which team 0 may take anything, and this is dropped.
+    fn with_record<const N: usize>(
+        &mut self,
+        of_record: OfRecord,
         run: impl FnOnce(
             &mut [u8],
             &mut [u32],
@@ -180,7 +278,11 @@ impl Lender {
             (Ok(_), Ok(before)) => {
                 let [used, largest] = self.totals_afresh()?;
                 let cost = i64::from(used) - i64::from(before.used);
-                hold(Some(back) == moved(given, team, cost, largest), "record")?;
+                let wanted = match of_record {
+                    OfRecord::Moves => moved(given, team, cost, largest),
+                    OfRecord::Stays => Some(given),
+                };
+                hold(Some(back) == wanted, "record")?;
             }
             (Ok(_), Err(_)) => hold(false, "record: refused where the edit is not")?,
             (Err(Stop::Refused(number)), made) => {
@@ -205,9 +307,15 @@ impl Lender {
         result.map(Record::of)
     }
 
-    /// Used bytes and the largest free region as the calls tell them that have them. An image that
-    /// does not open is dirty, whatever its header holds.
+    /// Used bytes and the largest free region as the calls tell them that have them.
     fn totals_afresh(&self) -> Answer<[u32; 2]> {
+        let (used, free) = self.space_afresh()?;
+        Ok([used, free.iter().map(|region| region[1]).max().unwrap_or(0)])
+    }
+
+    /// Used bytes, and offset and size of each free region. An image that does not open is dirty, whatever its
+    /// header holds.
+    fn space_afresh(&self) -> Answer<(u32, Vec<[u32; REGION_WORDS]>)> {
         let count = self.word(self.word(0x424)? as usize + 8)? as usize;
         hold(count <= MOST_ENTRIES, "image: does not open")?;
         let (mut words, mut list) = (vec![0; 4 * (count + 2)], vec![0; REGION_WORDS * (count + 1)]);
@@ -220,8 +328,8 @@ impl Lender {
             ]
         };
         hold(causes == [0; 2], "image: does not open")?;
-        let found = list.chunks(REGION_WORDS).take(regions[0] as usize);
-        Ok([totals[1], found.map(|region| region[1]).max().unwrap_or(0)])
+        let found = list.as_chunks().0.iter().take(regions[0] as usize);
+        Ok((totals[1], found.copied().collect()))
     }
 
     /// Makes a record of the image and takes it into use; a refusal leaves what was in use.
@@ -256,10 +364,8 @@ impl Lender {
         Ok(opened)
     }
 
-    /// A word of an image that a call accepted, so that it is there.
     fn word(&self, at: usize) -> Answer<u32> {
-        let word = self.image.slice().get(at..).and_then(|rest| rest.first_chunk());
-        word.map(|word| u32::from_be_bytes(*word)).ok_or(Stop::Dirty("image: does not open"))
+        word(self.image.slice(), at)
     }
 
     pub fn totals(&mut self) -> Answer<[u32; 2]> {
@@ -548,6 +654,102 @@ impl Lender {
             call!(counter_rewrite(mut image, mut words, mut bytes, = record, = team))
         })?;
         Ok(())
+    }
+
+    // Parts of edits ------------------------------------------------------------------------
+
+    /// A part of an edit: refused as the whole edit is, which is made on a copy of the image. The answer, and the
+    /// image that the whole edit leaves.
+    fn part<const N: usize>(
+        &mut self,
+        of_record: OfRecord,
+        (part, whole): (OfFile<N>, OfFile<0>),
+        numbers: [u32; 2],
+    ) -> Answer<([u32; N], Vec<u8>)> {
+        let mut made = (0, vec![]);
+        let result = self.with_record(of_record, |image, words, bytes, record, team, answer| {
+            let (mut its_image, mut its_record) = (image.to_vec(), *record);
+            let (mut its_words, mut its_bytes) = (vec![0; words.len()], vec![0; bytes.len()]);
+            let (i, w, b, r) = (&mut its_image, &mut its_words, &mut its_bytes, &mut its_record);
+            made.0 = whole(i, w, b, r, team, numbers, &mut []);
+            made.1 = its_image;
+            part(image, words, bytes, record, team, numbers, answer)
+        });
+        let number = match &result {
+            Ok(_) => 0,
+            Err(Stop::Refused(number)) => *number,
+            Err(_) => made.0,
+        };
+        hold(number == made.0, "part: not refused as the whole edit")?;
+        Ok((result?, made.1))
+    }
+
+    /// The old table and the new one, and the header's FST size.
+    fn of_table(&self, whole: &[u8]) -> Answer<[Range<usize>; 2]> {
+        let size = |image: &[u8]| word(image, 0x428);
+        let at = self.word(0x424)? as usize;
+        let longer = size(&self.before)?.max(size(whole)?);
+        Ok([at..at + longer as usize, 0x428..0x42c])
+    }
+
+    /// The copy. What it writes was free, and is one stretch no longer than the file; all else that the whole edit
+    /// writes is the table, and zeros where the file was.
+    pub fn copy(&mut self, edit: InParts, number: u32, to: u32) -> Answer<()> {
+        let (file, space) = (self.entry(number), self.space_afresh());
+        let parts = (edit.copy, edit.whole);
+        let ([], whole) = self.part(OfRecord::Stays, parts, [number, to])?;
+        let [_, _, offset, size] =
+            file.or(Err(Stop::Dirty("copy: of no file")))?.map(|n| n as usize);
+        let now = self.image.slice();
+        let copied = changed(now, &self.before);
+        hold(copied.len() <= size, "copy: longer than the file")?;
+        let (_, free) = space?;
+        hold(copied.is_empty() || is_free(&free, &copied), "copy: over used bytes")?;
+        let [table, field] = self.of_table(&whole)?;
+        let behind = [table, field, offset..offset + size];
+        hold(same_but_in(now, &whole, behind), "copy: not the whole edit's")
+    }
+
+    /// The table, and what is left to be zeroed. It writes the whole edit's table and its size; what is left is the
+    /// file's old place, or the end of it that the file has no more.
+    pub fn table(&mut self, edit: InParts, number: u32, to: u32) -> Answer<[u32; 2]> {
+        let file = self.entry(number);
+        let parts = (edit.table, edit.whole);
+        let (span, whole) = self.part(OfRecord::Moves, parts, [number, to])?;
+        let now = self.image.slice();
+        let [table, field] = self.of_table(&whole)?;
+        for part in [&table, &field] {
+            let same = now.get(part.clone()) == whole.get(part.clone());
+            hold(same, "table: not the whole edit's")?;
+        }
+        hold(same_but_in(now, &self.before, [table, field]), "table: more than the table")?;
+        let [_, _, old, had] = file.or(Err(Stop::Dirty("table: of no file")))?;
+        let [_, _, new, has] = self.entry(number)?;
+        let kept = if new == old { had.min(has) } else { 0 };
+        let left = if kept < had { [old + kept, had - kept] } else { [0, 0] };
+        hold(span == left, "table: span")?;
+        Ok(span)
+    }
+
+    /// The zeros: written exactly where every byte of the span is free.
+    pub fn zero(&mut self, offset: u32, size: u32) -> Answer<()> {
+        let space = self.space_afresh();
+        let result = self.call(Does::Zero, |lender, _: &mut [u32; 0]| {
+            let (image, words) = (lender.image.slice_mut(), lender.words.slice_mut());
+            unsafe { call!(counter_zero(mut image, mut words, = offset, = size)) }
+        });
+        let span = offset as usize..offset as usize + size as usize;
+        if matches!(result, Ok(_) | Err(Stop::Refused(29))) {
+            let (_, free) = space?;
+            let due = span.is_empty() || is_free(&free, &span);
+            hold(result.is_ok() == due, "zero: not where it is free")?;
+        }
+        let [] = result?;
+        let now = self.image.slice();
+        hold(same_but_in(now, &self.before, [span.clone()]), "zero: beside the span")?;
+        let zeros = now.get(span.clone()).unwrap_or(&[]);
+        hold(span.is_empty() || zeros.len() == span.len(), "zero: past the image")?;
+        hold(zeros.iter().all(|byte| *byte == 0), "zero: not zero")
     }
 
     // A new master --------------------------------------------------------------------------

@@ -17,10 +17,15 @@
 //!   start it is 0;
 //! - `master DISC_END CODE SIZES PATHS`: `ok`; writes a new master into the current image, whatever that
 //!   holds, and keeps its length. CODE: the game code, 4 bytes. SIZES: numbers parted by commas, or `-`.
-//!   PATHS: the bytes of all paths, with the zero bytes that end them. It takes no record and alters none.
+//!   PATHS: the bytes of all paths, with the zero bytes that end them. It takes no record and alters none;
+//! - `move_copy N OFF`, `resize_copy N SIZE`: `ok`; the copy of `move` or `resize` alone. Nothing of the record moves;
+//! - `move_table N OFF`, `resize_table N SIZE`: `ok OFFSET SIZE`; the table of the same, and what is left to be
+//!   zeroed, `0 0` where nothing is;
+//! - `zero OFFSET SIZE`: `ok`; zeros there. It takes neither record nor team nor working bytes.
 //!
-//! Every edit hands in the record in use and keeps what comes back, from a refused call too. Where
-//! none is in use it hands in a fresh one of the image, with team 0 and limits that it cannot pass, and drops it.
+//! Every edit hands in the record in use and keeps what comes back, from a refused call too; a copy and a table do
+//! as well. Where none is in use it hands in a fresh one of the image, with team 0 and limits that it cannot pass,
+//! and drops it.
 //!
 //! A refusal is `err N` with the number of its cause. `dirty WHAT` means that a call left working
 //! memory, the record, or something beside what it was lent, in another state than it promises.

@@ -1,6 +1,6 @@
 //! The current image, and the commands.
 
-use crate::calls::{CLUSTERS, ENTRY_WORDS, Lender, PerRegion, REGIONS};
+use crate::calls::{CLUSTERS, ENTRY_WORDS, Lender, MOVE, PerRegion, REGIONS, RESIZE};
 use crate::language::{Answer, FNV_START, Stop, Words, fnv, hex, number, signed};
 use crate::zeros::Zeros;
 use counter_sys::guarded::Guarded;
@@ -71,6 +71,9 @@ impl State {
             }
             "insert_file" | "insert_dir" | "mkdirs" | "move" | "resize" | "replace"
             | "replace_zeros" | "rewrite" => self.edit(command, words),
+            "move_copy" | "move_table" | "resize_copy" | "resize_table" | "zero" => {
+                self.part(command, words)
+            }
             "master" => self.master(words),
             _ => self.look(command, words),
         };
@@ -428,6 +431,22 @@ impl State {
                 "ok".into()
             }
         })
+    }
+
+    fn part(&mut self, command: &str, mut words: Words) -> Answer<String> {
+        let (first, second) = (words.word()?, words.word()?);
+        words.end()?;
+        let lender = &mut self.lender;
+        let edit = if command.starts_with("move") { MOVE } else { RESIZE };
+        match command {
+            "zero" => lender.zero(first, second)?,
+            "move_copy" | "resize_copy" => lender.copy(edit, first, second)?,
+            _ => {
+                let [offset, size] = lender.table(edit, first, second)?;
+                return Ok(format!("ok {offset} {size}"));
+            }
+        }
+        Ok("ok".into())
     }
 
     // A new master --------------------------------------------------------------------------

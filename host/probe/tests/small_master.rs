@@ -1,7 +1,7 @@
 //! The probe on the small master: its listing, P1 to P12, every refusal number once,
 //! free regions in clusters, a program behind the table or before it, lists of edits, files filled
-//! from given bytes, records, teams, the stated table maximum, new masters, and calls with too little memory
-//! or too short a list.
+//! from given bytes, records, teams, the stated table maximum, new masters, edits in three calls, and calls with
+//! too little memory or too short a list.
 //! `dirty` is never an answer.
 
 use std::io::{Read, Write};
@@ -156,6 +156,7 @@ fn every_refusal() {
         (&["set_record 0 0 0:0:1:0", "rewrite"], "err 27"),
         (&["make_record - 0,6823", "rewrite"], "err 28"),
         (&["team 16", "rewrite"], "err 15"),
+        (&["zero 0x500 1"], "err 29"),
     ]);
 }
 
@@ -1198,7 +1199,21 @@ fn never_dirty() {
                 5 => Some(format!("team {}", 14 + random(4))),
                 _ => None,
             });
-            commands.push(match random(19) {
+            // All three of one edit; the span is that of the file as it was made.
+            commands.extend(match random(12) {
+                0 => vec![
+                    format!("move_copy 1 {at}"),
+                    format!("move_table 1 {at}"),
+                    "zero 1280 256".into(),
+                ],
+                1 => vec![
+                    format!("resize_copy 1 {}", len & 255),
+                    format!("resize_table 1 {}", len & 255),
+                    format!("zero {} {}", 1280 + (len & 255), 256 - (len & 255)),
+                ],
+                _ => vec![],
+            });
+            commands.push(match random(24) {
                 0 => format!("move {entry} {at}"),
                 1 => format!("resize {entry} {len}"),
                 2 => "rewrite".into(),
@@ -1225,6 +1240,11 @@ fn never_dirty() {
                         len >> 9
                     )
                 }
+                18 => format!("zero {at} {len}"),
+                19 => format!("move_copy {entry} {at}"),
+                20 => format!("move_table {entry} {at}"),
+                21 => format!("resize_copy {entry} {len}"),
+                22 => format!("resize_table {entry} {len}"),
                 _ => format!("patch {} {:02x}", 0x420 + random(0x44), random(4)),
             });
         }
@@ -1270,5 +1290,174 @@ fn new_masters() {
         ),
         (&[OPEN, "master 0x2000 47434c45 0 6100", "record"], "ok 1370 6656 4294967295:0:0:0 .."),
         (&["master 0x2000 47434c45 0 6100", OPEN], "ok 1114 7078 4294967295:0:0:0 .."),
+    ]);
+}
+
+/// The copy, the table, the zeros: what is left to be zeroed, and the image and the record of the whole edit at last.
+#[test]
+fn edits_in_three_calls() {
+    const BYTES: &str = "patch 0x500 0102030405060708";
+    const TWO: &str = "make_record 500,4294967295 100,6000";
+    hold(&[
+        (&["resize_copy 1 6912"], "ok"),
+        (&["resize_table 1 6912"], "ok 0 0"),
+        (&["resize_table 1 128"], "ok 1408 128"),
+        (&["resize_table 1 0"], "ok 1280 256"),
+        (&["resize_table 1 256"], "ok 0 0"),
+        (&["move_copy 1 1536"], "ok"),
+        (&["move_copy 1 1536", "move_table 1 1536"], "ok 1280 256"),
+        (&["move_copy 1 1536", "move_table 1 1536", "zero 1280 256"], "ok"),
+        (&["zero 1114 4294967295"], "err 29"),
+        (&["zero 4294967295 0"], "ok"),
+        (&["size 0x43f", "zero 4294967295 0"], "err 1"),
+        (&["patch 0x450 00000459", "zero 4294967295 0"], "err 14"),
+        // Behind the copy: the old tree; the copy is in free space.
+        (&[BYTES, "move_copy 1 1536", "peek 0x500 8"], "ok 0102030405060708"),
+        (&[BYTES, "move_copy 1 1536", "peek 0x600 8"], "ok 0102030405060708"),
+        (&[BYTES, "move_copy 1 1536", "entry 1"], "ok f:1:1280:256"),
+        // Behind the table: the new tree; the old place still has its bytes.
+        (&[BYTES, "move_copy 1 1536", "move_table 1 1536", "entry 1"], "ok f:1:1536:256"),
+        (&[BYTES, "move_copy 1 1536", "move_table 1 1536", "peek 0x500 8"], "ok 0102030405060708"),
+        (
+            &[BYTES, "move_copy 1 1536", "move_table 1 1536", "zero 1280 256", "peek 0x500 8"],
+            "ok 0000000000000000",
+        ),
+        // The second without the first, the third without either, and each again.
+        (&[BYTES, "move_table 1 1536", "peek 0x600 8"], "ok 0000000000000000"),
+        (&["zero 1280 256"], "err 29"),
+        (&["zero 1536 6656"], "ok"),
+        (&["move_copy 1 1536", "move_copy 1 1536"], "ok"),
+        (&["move_table 1 1536", "move_table 1 1536"], "err 20"),
+        (&["move_table 1 1536", "move_copy 1 1536"], "err 20"),
+        (&["move_table 1 1536", "zero 1280 256", "zero 1280 256"], "ok"),
+        // A record goes through the first as it is.
+        (&[TWO, "move_copy 1 2048", "record"], "ok 1370 6656 500:100:0:0 4294967295:6000:0:0 .."),
+        (
+            &[TWO, "resize_table 1 756", "record"],
+            "ok 1870 6156 500:100:500:1 4294967295:6000:0:0 ..",
+        ),
+        (&[TWO, "resize_copy 1 757"], "err 27"),
+        (&[TWO, "resize_table 1 757"], "err 27"),
+        (&["record"], "ok 1370 6656 500:100:0:0 4294967295:6000:0:0 .."),
+        // The third takes neither record nor team.
+        (&["team 16", "move_copy 1 2048"], "err 15"),
+        (&["team 16", "move_table 1 2048"], "err 15"),
+        (&["team 16", "zero 1536 1"], "ok"),
+        (&["record"], "ok 1370 6656 500:100:0:0 4294967295:6000:0:0 .."),
+        (&["team 0", "drop_record", "move_copy 1 2048"], "ok"),
+        (&["move_table 1 2048", "zero 1280 756"], "ok"),
+        (&["move_table 1 2048", "zero 2048 1"], "err 29"),
+    ]);
+    // In the words of PROBE-POINTS: of a file of 756 bytes.
+    hold(&[
+        (&["resize 1 756", "move_copy 1 2048", "move_table 1 2048"], "ok 1280 756"),
+        (
+            &["resize 1 756", "move_copy 1 2048", "move_table 1 2048", "zero 1280 756", "free"],
+            "ok 1114:934 2804:5388",
+        ),
+    ]);
+}
+
+/// Every test of the whole edit is made by its parts: on a small master that is changed as said, each number.
+#[test]
+fn parts_are_refused_as_the_whole_edit() {
+    // Two files share the text `a`: the table ends at 0x466, written anew at 0x468.
+    const SHARED: [&str; 3] = [
+        "patch 0x428 00000026",
+        "patch 0x440 010000000000000000000003000000000000050000000010",
+        "patch 0x458 0000000000000700000000106100",
+    ];
+    let cases: [(&[&str], &str, &str); 25] = [
+        (&["size 0x43f"], "move 1 1536", "err 1"),
+        (&["patch 0x1c 00"], "resize 1 0", "err 3"),
+        (&["patch 0x450 00000459"], "resize 1 256", "err 14"),
+        (&["patch 0x420 00001f1d"], "resize 1 0", "err 24"),
+        (&["make_record", "team 16"], "move 2 1536", "err 15"),
+        (&[], "move 2 1536", "err 15"),
+        (&[], "resize 2 0", "err 15"),
+        (&[], "move 0 1536", "err 16"),
+        (&[], "resize 0 0", "err 16"),
+        (&[], "move 1 0x501", "err 20"),
+        (&[], "move 1 0x400", "err 21"),
+        (&[], "resize 1 0x1b01", "err 21"),
+        (&["lend 15 26"], "move 1 1536", "err 9"),
+        (&["lend 16 25"], "move 1 1536", "err 9"),
+        (&["lend 16 25"], "resize 1 255", "err 9"),
+        (&["lend 16 0"], "resize 1 256", "ok"),
+        (&[SHORT], "move 1 1536", "err 26"),
+        (&[SHORT], "resize 1 256", "ok"),
+        (&SHARED, "move 2 0x466", "err 21"),
+        (&SHARED, "move 2 0x467", "err 21"),
+        (&SHARED, "resize 2 16", "ok"),
+        (&["set_record 9 9 5:0:9:9"], "move 1 1536", "err 27"),
+        (&["make_record 0 0,6823"], "resize 1 256", "err 28"),
+        (&["set_record 0 0 9:0:0:0"], "resize 1 255", "err 25"),
+        (&["set_record 0 0 9:0:0:4294967295"], "resize 1 256", "err 25"),
+    ];
+    let all = "lend 65544 2097152";
+    let mut lists: Vec<(Vec<String>, String)> = vec![];
+    for (before, edit, expected) in cases {
+        let (kind, numbers) = edit.split_once(' ').unwrap();
+        for part in ["", "_copy", "_table"] {
+            let mut list: Vec<String> = [&["drop_record", "team 0", all], before]
+                .concat()
+                .iter()
+                .map(|l| l.to_string())
+                .collect();
+            list.push(format!("{kind}{part} {numbers}"));
+            let none = expected == "ok" && part == "_table";
+            lists.push((list, if none { "ok 0 0" } else { expected }.into()));
+        }
+    }
+    let lists: Vec<(Vec<&str>, &str)> = lists
+        .iter()
+        .map(|(list, said)| (list.iter().map(String::as_str).collect(), said.as_str()))
+        .collect();
+    let cases: Vec<(&[&str], &str)> = lists.iter().map(|(list, said)| (&list[..], *said)).collect();
+    hold(&cases);
+}
+
+/// The span of the third call: to the end of a free region and of the disc, a byte past them, and over a file.
+#[test]
+fn spans_that_are_free() {
+    const LENT: &str = "lend 16 0";
+    hold(&[
+        (&[LENT], "ok"),
+        (&["zero 0 0"], "ok"),
+        (&["zero 0 1"], "err 29"),
+        (&["zero 0x459 1"], "err 29"),
+        (&["zero 0x45a 1"], "ok"),
+        (&["zero 0x45a 166"], "ok"),
+        (&["zero 0x45a 167"], "err 29"),
+        (&["zero 0x459 167"], "err 29"),
+        (&["zero 0x45a 7078"], "err 29"),
+        (&["zero 0x500 256"], "err 29"),
+        (&["zero 0x5ff 1"], "err 29"),
+        (&["zero 0x600 6656"], "ok"),
+        (&["zero 0x600 6657"], "err 29"),
+        (&["zero 0x1fff 1"], "ok"),
+        (&["zero 0x1fff 2"], "err 29"),
+        (&["zero 0x2000 0"], "ok"),
+        (&["zero 0x2000 1"], "err 29"),
+        (&["zero 0x600 4294965760"], "err 29"), // its end is 2^32
+        (&["zero 0x600 4294965761"], "err 29"),
+        (&["zero 4294967295 1"], "err 29"),
+        (&["zero 4294967295 4294967295"], "err 29"),
+        // The image goes on behind the disc end.
+        (
+            &["size 0x3000", "patch 0x1ffe 01010101", "zero 0x1fff 1", "peek 0x1ffe 4"],
+            "ok 01000101",
+        ),
+        (&["size 0x3000", "zero 0x1fff 2"], "err 29"),
+        // An empty file inside it takes no byte.
+        (&["patch 0x450 0000070000000000", "zero 0x45a 7078"], "ok"),
+        // A program of 0xe4 bytes behind the table.
+        (&["patch 0x420 00001000", "zero 0x600 2560"], "ok"),
+        (&["patch 0x420 00001000", "zero 0x600 2561"], "err 29"),
+        (&["patch 0x420 00001000", "zero 0x10e3 1"], "err 29"),
+        (&["patch 0x420 00001000", "zero 0x10e4 3868"], "ok"),
+        (&["lend 15 0", "zero 0 0"], "err 9"),
+        (&["zero 0 1"], "err 9"),
+        (&["lend 65544 2097152"], "ok"),
     ]);
 }

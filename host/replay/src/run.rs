@@ -180,9 +180,9 @@ impl Stage {
                 self.on_window(name, numbers[0], &lent)?
             }
             "insert_file" | "insert_directory" | "make_directories" | "move_file"
-            | "resize_file" | "rewrite" => {
-                self.edit(name, filled(&numbers)?, &line.text, &mut lent)?
-            }
+            | "resize_file" | "rewrite" | "move_copy" | "move_table" | "resize_copy"
+            | "resize_table" => self.edit(name, filled(&numbers)?, &line.text, &mut lent)?,
+            "zero" => self.zero(filled(&numbers)?, &mut lent)?,
             "make_record" => self.make_record(line, &mut lent)?,
             "fill_file" | "fill_zeros" => self.fill_file(name, &numbers, &line.text, &mut lent)?,
             "master" => self.master(&numbers, &line.text, &mut lent)?,
@@ -224,7 +224,20 @@ impl Stage {
                 })?
             };
         }
+        macro_rules! table {
+            ($name:ident) => {
+                slots::<u32, 2>(|s| unsafe {
+                    call!($name(
+                        mut image, mut words, mut bytes, = record.slots(), = team, = a, = b, = s
+                    ))
+                })?
+            };
+        }
         let mut numbers = match name {
+            "move_copy" => change!(counter_move_copy(, = a, = b)),
+            "resize_copy" => change!(counter_resize_copy(, = a, = b)),
+            "move_table" => table!(counter_move_table),
+            "resize_table" => table!(counter_resize_table),
             "insert_file" => insert!(counter_insert_file),
             "insert_directory" => insert!(counter_insert_directory),
             "make_directories" => insert!(counter_make_directories),
@@ -239,6 +252,8 @@ impl Stage {
         holds(record.margins_stay(), "something beside the record was written")?;
         let given = Record::of(*record.slots());
         holds(numbers[0] == 0 || given == taken, "a refusal changed the record")?;
+        let copies = matches!(name, "move_copy" | "resize_copy");
+        holds(!copies || given == taken, "a copy changed the record")?;
         holds(
             fresh.is_ok() || fresh == Err(numbers[0] as u32),
             "the edit and a record of the image are not refused alike",
@@ -250,11 +265,27 @@ impl Stage {
         } else if numbers[0] == 0 {
             let mut wanted = fresh_record(&self.image, self.words)?
                 .map_err(|number| format!("the image is refused afterwards: {number}"))?;
-            wanted.teams[0].taken = wanted.used.saturating_sub(taken.used);
-            wanted.teams[0].edits = 1;
+            if !copies {
+                wanted.teams[0].taken = wanted.used.saturating_sub(taken.used);
+                wanted.teams[0].edits = 1;
+            }
             holds(given == wanted, "the record is not the new image's")?;
         }
         Ok(Given { numbers, text: vec![] })
+    }
+
+    /// Zeros over so many bytes from an offset on.
+    fn zero(&mut self, [offset, size]: [u32; 2], l: &mut Lent) -> Result<Given, String> {
+        let (image, words) = (l.image.slice_mut(), l.words.slice_mut());
+        let mut given = slots::<u32, 0>(|_| unsafe {
+            call!(counter_zero(mut image, mut words, = offset, = size))
+        })?;
+        holds(l.words.is_zero(), "working memory is not zero")?;
+        holds(l.bytes.stays_from(0), "working bytes that were not lent were written")?;
+        holds(given[0] == 0 || l.image.slice() == self.image, "a refusal changed the image")?;
+        self.image.copy_from_slice(l.image.slice());
+        given.push(checksum(&self.image));
+        Ok(Given { numbers: given, text: vec![] })
     }
 
     /// Limits and shares of the teams, team 0 first; 0 for those that are not named.
@@ -459,7 +490,8 @@ fn arity(name: &str) -> usize {
     match name {
         "open" | "totals" | "program" | "entries" | "free_regions" | "free_clusters"
         | "open_dol" | "header" | "rewrite" => 0,
-        "max_region_size" | "allocate" | "move_file" | "resize_file" | "fill_zeros" => 2,
+        "max_region_size" | "allocate" | "move_file" | "resize_file" | "fill_zeros"
+        | "move_copy" | "move_table" | "resize_copy" | "resize_table" | "zero" => 2,
         _ => 1,
     }
 }

@@ -15,7 +15,7 @@ fn every_call_of_every_script() {
         assert!(outcome.differ.is_empty(), "{}", outcome.differ.join("\n"));
         calls += outcome.calls;
     }
-    assert_eq!(calls, 9282, "all of them, so that none is lost");
+    assert_eq!(calls, 10548, "all of them, so that none is lost");
 }
 
 /// A script that a program of this folder puts together is as it does.
@@ -34,6 +34,11 @@ fn new_masters_are_put_together() {
 #[test]
 fn records_of_teams_are_put_together() {
     put_together("teams.py", "teams.txt");
+}
+
+#[test]
+fn edits_in_three_calls_are_put_together() {
+    put_together("steps.py", "steps.txt");
 }
 
 const MASTER: &str =
@@ -82,6 +87,21 @@ fn right_answers_of_the_small_master() {
         "patch 0x42c :0000001a\nrewrite = 0 0x5b12f8ccc73eb054",
         "patch 0x42c :00000019\nrewrite = 26 0x7b45e1b0436abd75",
         "patch 0x42c :0000001a\ninsert_file 0 \"b\" = 26 0x5b12f8ccc73eb054",
+        // A move or a resize in three calls; all that the file has is zeros.
+        "move_copy 1 0x600 = 0 0x203a64a4776abcd2",
+        "resize_copy 1 0x1b00 = 0 0x203a64a4776abcd2",
+        "resize_copy 1 0x1b01 = 21 0x203a64a4776abcd2",
+        "resize_table 1 0x100 = 0 0x203a64a4776abcd2 0 0",
+        "move_table 1 0x500 = 20 0x203a64a4776abcd2",
+        "zero 0x600 0x1a00 = 0 0x203a64a4776abcd2",
+        "zero 0x600 0x1a01 = 29 0x203a64a4776abcd2",
+        "zero 0xffffffff 0 = 0 0x203a64a4776abcd2",
+        "lend 15 0 0\nzero 0xffffffff 0 = 9 0x203a64a4776abcd2",
+        "record 5 6 4:3:2:7\nmove_copy 1 0x600 = 0 0x203a64a4776abcd2 5 6 4:3:2:7",
+        "record 5 6 4:3:2:7\nresize_table 1 0x100 = 0 0x203a64a4776abcd2 0 0 5 6656 4:3:2:8",
+        "record 5 6 8:0:9:0\nmove_copy 1 0x600 = 27 0x203a64a4776abcd2 5 6 8:0:9:0",
+        "team 16\nrecord 5 6\nmove_table 1 0x600 = 15 0x203a64a4776abcd2 5 6",
+        "team 16\nrecord 5 6\nzero 0x600 1 = 0 0x203a64a4776abcd2",
         // A new master, refused, and with no files.
         "master 0x44b 0 = 21 0x203a64a4776abcd2",
         "record 5 6\nmaster 0x2000 0 1 \"a\" = 8 0x203a64a4776abcd2",
@@ -129,6 +149,11 @@ fn a_wrong_answer_is_told() {
             "master 0x44b 0 = 0",
             "s:7: master 0x44b 0: gave 0x15 0x203a64a4776abcd2, has to give 0x0",
         ),
+        (
+            "resize_table 1 0x100 = 0 0x203a64a4776abcd2 0 1",
+            "s:7: resize_table 1 0x100: gave 0x0 0x203a64a4776abcd2 0x0 0x0, has to give 0x0 0x203a64a4776abcd2 0x0 0x1",
+        ),
+        ("zero 1 = 0 0x203a64a4776abcd2", "s:7: zero 1: a number too many or too few"),
         ("make_record 1 2 3 = 0", "s:7: make_record 1 2 3: a number too many or too few"),
         ("make_record 1, = 0", "s:7: make_record 1,: `` is no number"),
         (

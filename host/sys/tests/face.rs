@@ -1,7 +1,8 @@
 //! What the probe's language does not reach: windows that no call gives; each call on slices; the
 //! program's region; an image with nothing in it.
 
-use counter_sys::{Entry, Memory, Opened, Record, Region, TEAMS, Team, Window};
+use counter_sys::guarded::Guarded;
+use counter_sys::{Entry, Memory, Opened, Record, Region, TEAMS, Team, Window, call};
 use std::array;
 
 /// The small master.
@@ -133,6 +134,19 @@ fn the_calls_on_slices() {
     assert_eq!(*r, after(1370 + 42 - 0xf8, 0x19f8, 0, 7));
     assert_eq!(counter_sys::insert_file(&mut image, m, r, TEAM, 0, b"e"), Err(9));
     assert_eq!(*r, after(1370 + 42 - 0xf8, 0x19f8, 0, 7));
+    let none = Region { offset: 0, size: 0 };
+    assert_eq!(counter_sys::resize_copy(&mut image, m, r, TEAM, 1, 0x100), Ok(()));
+    assert_eq!(*r, after(1370 + 42 - 0xf8, 0x19f8, 0, 7));
+    assert_eq!(counter_sys::resize_table(&mut image, m, r, TEAM, 1, 0x100), Ok(none));
+    assert_eq!(*r, after(1370 + 42, 0x1900, 0xf8, 8));
+    assert_eq!(counter_sys::move_copy(&mut image, m, r, TEAM, 1, 0x700), Ok(()));
+    let left = Region { offset: 0x600, size: 0x100 };
+    assert_eq!(counter_sys::move_table(&mut image, m, r, TEAM, 1, 0x700), Ok(left));
+    assert_eq!(*r, after(1370 + 42, 0x1800, 0xf8, 9));
+    assert_eq!((&image[0x600..0x608], &image[0x700..0x708]), (&b"the clip"[..], &b"the clip"[..]));
+    assert_eq!(counter_sys::zero(&mut image, m.words, left), Ok(()));
+    assert_eq!((&image[0x600..0x608], &image[0x700..0x708]), (&[0; 8][..], &b"the clip"[..]));
+    assert_eq!(counter_sys::zero(&mut image, m.words, Region { size: 0x101, ..left }), Err(29));
     assert!(words == [0; 28] && bytes == [0; 68]);
 }
 
@@ -194,6 +208,40 @@ fn no_name_and_no_argument_is_taken_for_another() {
     let sized =
         edited(&mut |image, record| counter_sys::resize_file(image, m, record, TEAM, 0x80, 1));
     assert_eq!(sized, Err(15));
+    // Copy and table, of a move and of a resize: the copy of neither moves the record on.
+    let copied = |copy: &mut dyn FnMut(&mut [u8], &Record) -> Result<(), u32>| {
+        let (mut copied, given) = (image.clone(), record(1370, 0, 0, 7));
+        copied[0x500] = 3;
+        copy(&mut copied, &given).map(|()| (copied[0x800], word(&copied, 0x450)))
+    };
+    let at = vec![0, 0, 5, 0];
+    assert_eq!(
+        copied(&mut |i, r| counter_sys::move_copy(i, m, r, TEAM, 1, 0x800)),
+        Ok((3, at.clone()))
+    );
+    assert_eq!(copied(&mut |i, r| counter_sys::move_copy(i, m, r, TEAM, 0x800, 1)), Err(15));
+    assert_eq!(copied(&mut |i, r| counter_sys::resize_copy(i, m, r, TEAM, 1, 0x800)), Ok((0, at)));
+    assert_eq!(copied(&mut |i, r| counter_sys::resize_copy(i, m, r, TEAM, 0x800, 1)), Err(15));
+    let span = |given: Result<Region, u32>, offset: u32, size: u32| {
+        given.map(|found| assert_eq!(found, Region { offset, size }))
+    };
+    let moved =
+        edited(&mut |i, r| span(counter_sys::move_table(i, m, r, TEAM, 1, 0x800), 0x500, 0x100));
+    assert_eq!(word(&moved.unwrap(), 0x450), [0, 0, 8, 0]);
+    let sized =
+        edited(&mut |i, r| span(counter_sys::resize_table(i, m, r, TEAM, 1, 0x80), 0x580, 0x80));
+    assert_eq!(word(&sized.unwrap(), 0x454), [0, 0, 0, 0x80]);
+    let refused = [
+        edited(&mut |i, r| span(counter_sys::move_table(i, m, r, TEAM, 0x800, 1), 0, 0)),
+        edited(&mut |i, r| span(counter_sys::resize_table(i, m, r, TEAM, 0x80, 1), 0, 0)),
+    ];
+    assert_eq!(refused, [Err(15), Err(15)]);
+    // Offset and size.
+    let mut zeroed = image.clone();
+    let region = Region { offset: 0x600, size: 2 };
+    assert_eq!(counter_sys::zero(&mut zeroed, m.words, region), Ok(()));
+    let region = Region { offset: 2, size: 0x600 };
+    assert_eq!(counter_sys::zero(&mut zeroed, m.words, region), Err(29));
     // A file, a directory, a path.
     let number =
         |given: Result<u32, u32>, wanted: u32| given.map(|found| assert_eq!(found, wanted));
@@ -403,7 +451,7 @@ fn a_record_that_holds_anything() {
 type Edit = fn(&mut [u8], &mut Memory, &mut Record, u32) -> Result<(), u32>;
 
 /// Edits of the small master, and what each of them costs.
-const EDITS: [(Edit, i64); 10] = [
+const EDITS: [(Edit, i64); 13] = [
     (|i, m, r, team| counter_sys::insert_file(i, m, r, team, 0, b"b").map(|_| ()), 14),
     (|i, m, r, team| counter_sys::insert_directory(i, m, r, team, 0, b"bb").map(|_| ()), 15),
     (|i, m, r, team| counter_sys::make_directories(i, m, r, team, 0, b"n/m").map(|_| ()), 28),
@@ -414,6 +462,9 @@ const EDITS: [(Edit, i64); 10] = [
     (|i, m, r, team| counter_sys::fill_file(i, m, r, team, 1, &[7; 0x105]), 5),
     (|i, m, r, team| counter_sys::fill_file(i, m, r, team, 1, b"clip"), -0xfc),
     (|i, m, r, team| counter_sys::rewrite(i, m, r, team), 0),
+    (|i, m, r, team| counter_sys::move_table(i, m, r, team, 1, 0x600).map(|_| ()), 0),
+    (|i, m, r, team| counter_sys::resize_table(i, m, r, team, 1, 0x1b00).map(|_| ()), 0x1a00),
+    (|i, m, r, team| counter_sys::resize_table(i, m, r, team, 1, 0).map(|_| ()), -0x100),
 ];
 
 /// Each edit at the bounds of 27, 28 and 25, by the first team, one between and the last; and by one that there is not.
@@ -510,6 +561,160 @@ fn an_edit_of_a_team() {
             Err(27)
         );
     }
+}
+
+/// The small master with bytes in `a` and behind it, and what the three calls are lent, between margins.
+struct Parts {
+    image: Guarded<u8>,
+    words: Guarded<u32>,
+    bytes: Guarded<u8>,
+    record: Guarded<u32>,
+    span: Guarded<u32>,
+    team: u32,
+}
+
+impl Parts {
+    fn of(team: u32, record: Record) -> Parts {
+        let mut image = small_master();
+        for (place, byte) in image[0x500..].iter_mut().zip(1..) {
+            *place = (byte % 251) as u8;
+        }
+        Parts {
+            image: Guarded::of(&image),
+            words: Guarded::new(16),
+            bytes: Guarded::new(26),
+            record: Guarded::of(&record.slots()),
+            span: Guarded::new(2),
+            team,
+        }
+    }
+
+    /// Working memory is zero, and nothing is touched beside what was lent, nor bytes where none were.
+    fn after(&mut self, number: u32, has_bytes: bool) -> u32 {
+        assert!(self.words.margins_stay() && self.words.is_zero());
+        assert!(if has_bytes { self.bytes.is_zero() } else { self.bytes.stays_from(0) });
+        assert!(self.bytes.margins_stay() && self.image.margins_stay());
+        assert!(self.record.margins_stay() && self.span.margins_stay());
+        self.words.mark();
+        self.bytes.mark();
+        number
+    }
+
+    fn copy(&mut self, moves: bool, number: u32, to: u32) -> u32 {
+        let (i, w, b) = (self.image.slice_mut(), self.words.slice_mut(), self.bytes.slice_mut());
+        let (record, team) = (self.record.slots(), self.team);
+        let before = *record;
+        let answer = unsafe {
+            if moves {
+                call!(counter_move_copy(mut i, mut w, mut b, = record, = team, = number, = to))
+            } else {
+                call!(counter_resize_copy(mut i, mut w, mut b, = record, = team, = number, = to))
+            }
+        };
+        assert!(self.record.slice() == before && self.span.stays_from(0));
+        self.after(answer, true)
+    }
+
+    fn table(&mut self, moves: bool, number: u32, to: u32) -> u32 {
+        self.span.mark();
+        let (i, w, b) = (self.image.slice_mut(), self.words.slice_mut(), self.bytes.slice_mut());
+        let (record, team, span) = (self.record.slots(), self.team, self.span.slots());
+        let before = *record;
+        let answer = unsafe {
+            if moves {
+                call!(counter_move_table(mut i, mut w, mut b, = record, = team, = number, = to, = span))
+            } else {
+                call!(counter_resize_table(mut i, mut w, mut b, = record, = team, = number, = to, = span))
+            }
+        };
+        assert!(answer == 0 || (self.span.stays_from(0) && self.record.slice() == before));
+        self.after(answer, true)
+    }
+
+    fn zero(&mut self, offset: u32, size: u32) -> u32 {
+        let (image, words) = (self.image.slice_mut(), self.words.slice_mut());
+        let answer = unsafe { call!(counter_zero(mut image, mut words, = offset, = size)) };
+        self.after(answer, false)
+    }
+}
+
+/// Each call writes its own part and no other byte; the three are the single edit, the record too.
+#[test]
+fn each_call_writes_its_own_part() {
+    // Whether it moves, to what, what is left to be zeroed, and where the copy lies.
+    let cases = [
+        (true, 0x600, [0x500, 0x100], 0x600..0x700),
+        (true, 0x1f00, [0x500, 0x100], 0x1f00..0x2000),
+        (false, 0x80, [0x580, 0x80], 0..0),
+        (false, 0, [0x500, 0x100], 0..0),
+        (false, 0x1b00, [0, 0], 0..0),
+        (false, 0x100, [0, 0], 0..0),
+    ];
+    for (moves, to, span, copied) in cases {
+        let mut parts = Parts::of(TEAM, record(5000, 3, 300, 8));
+        let start = parts.image.slice().to_vec();
+        let (mut whole, mut back) = (start.clone(), record(5000, 3, 300, 8));
+        let (mut words, mut bytes) = ([9; 16], [9; 26]);
+        let m = &mut Memory { words: &mut words, bytes: &mut bytes };
+        let edit = if moves { counter_sys::move_file } else { counter_sys::resize_file };
+        assert_eq!(edit(&mut whole, m, &mut back, TEAM, 1, to), Ok(()));
+
+        assert_eq!(parts.copy(moves, 1, to), 0);
+        let mut wanted = start.clone();
+        let kept = copied.len();
+        wanted[copied].copy_from_slice(&start[0x500..0x500 + kept]);
+        assert!(parts.image.slice() == wanted);
+        assert_eq!(parts.table(moves, 1, to), 0);
+        // The file's offset and size in its entry; the FST size stays.
+        wanted[0x44c..0x45a].copy_from_slice(&whole[0x44c..0x45a]);
+        assert!(parts.image.slice() == wanted);
+        assert_eq!((parts.span.slice(), parts.record.slice()), (&span[..], &back.slots()[..]));
+        assert_eq!(parts.zero(span[0], span[1]), 0);
+        assert!(parts.image.slice() == whole);
+    }
+}
+
+/// By every test of the single edit, those of team and record too; the image stays, and the span.
+#[test]
+fn parts_are_refused_as_the_single_edit() {
+    let (open, full) = (record(5000, 3, 300, 8), record(5000, 3, 300, u32::MAX));
+    let mut limited = open;
+    limited.teams[TEAM as usize].limit = 299;
+    let mut kept = open;
+    kept.teams[0] = Team { share: 6823, taken: 0, ..kept.teams[0] };
+    let cases = [
+        (TEAM, open, true, 2, 0x600, 15),
+        (TEAM, open, false, 0, 1, 16),
+        (TEAM, open, true, 1, 0x501, 20),
+        (TEAM, open, true, 1, 0x1f01, 21),
+        (TEAM, open, false, 1, 0x1b01, 21),
+        (16, open, true, 1, 0x600, 15),
+        (u32::MAX, full, false, 0, 1, 15),
+        (TEAM, limited, true, 1, 0x600, 27),
+        (TEAM, limited, false, 1, 0x100, 27),
+        (TEAM, kept, true, 1, 0x600, 28),
+        (TEAM, full, false, 1, 0x100, 25),
+        (TEAM, full, true, 1, 0x600, 25),
+    ];
+    for (team, record, moves, number, to, refusal) in cases {
+        let mut parts = Parts::of(team, record);
+        let start = parts.image.slice().to_vec();
+        assert_eq!(parts.copy(moves, number, to), refusal);
+        assert_eq!(parts.table(moves, number, to), refusal);
+        assert!(parts.image.slice() == start);
+    }
+    // Too little memory, and a stated maximum.
+    let mut parts = Parts::of(TEAM, open);
+    parts.bytes = Guarded::new(25);
+    assert_eq!([parts.copy(true, 1, 0x600), parts.table(true, 1, 0x600)], [9, 9]);
+    assert_eq!([parts.copy(false, 1, 0x100), parts.table(false, 1, 0x100)], [0, 0]);
+    parts.words = Guarded::new(15);
+    assert_eq!([parts.copy(true, 1, 0x600), parts.table(true, 1, 0x600)], [9, 9]);
+    assert_eq!([parts.zero(0, 0), parts.zero(0x600, 1)], [9, 9]);
+    let mut parts = Parts::of(TEAM, open);
+    parts.image.slice_mut()[0x42f] = 25;
+    assert_eq!([parts.copy(true, 1, 0x600), parts.table(true, 1, 0x600)], [26, 26]);
+    assert_eq!([parts.copy(false, 1, 0x100), parts.table(false, 1, 0x100)], [0, 0]);
 }
 
 /// The header's word at 0x42c bounds the table that an edit writes; 0 does not. The small master's has 26 bytes,
@@ -640,6 +845,13 @@ fn an_empty_image() {
     assert_eq!(counter_sys::resize_file(&mut image, m, r, 16, 9, 0), Err(1));
     assert_eq!(counter_sys::fill_file(&mut image, m, r, 16, 9, b""), Err(1));
     assert_eq!(counter_sys::rewrite(&mut image, m, r, 16), Err(1));
+    assert_eq!(counter_sys::move_copy(&mut image, m, r, 16, 9, 0), Err(1));
+    assert_eq!(counter_sys::resize_copy(&mut image, m, r, 16, 9, 0), Err(1));
+    assert_eq!(counter_sys::move_table(&mut image, m, r, 16, 9, 0), Err(1));
+    assert_eq!(counter_sys::resize_table(&mut image, m, r, 16, 9, 0), Err(1));
+    for (offset, size) in [(0, 0), (0, 1), (u32::MAX, 0), (u32::MAX, u32::MAX)] {
+        assert_eq!(counter_sys::zero(&mut image, m.words, Region { offset, size }), Err(1));
+    }
     assert_eq!(*r, record(7, 8, 9, 10));
     assert_eq!((words, bytes), ([0; 2], [0; 2]));
 }
