@@ -343,7 +343,7 @@ fn whole(
 
 /// Teams that have edited before, and a record whose first numbers are not the image's.
 fn of_teams() -> Record {
-    let mut record = Record { used: 0x1_0000, largest: 7, teams: Default::default() };
+    let mut record = Record { used: 0x10_0000, largest: 7, teams: Default::default() };
     record.teams[0] = Team { limit: 0x10_0000, share: 100, taken: 0x1_0000, edits: 5 };
     record.teams[15] = Team { limit: 0, share: 300, taken: 200, edits: u32::MAX };
     record
@@ -352,7 +352,7 @@ fn of_teams() -> Record {
 /// Moves, growth elsewhere and in place, shrinks, empty files, the present size; and a table that gets shorter.
 fn place_edits(temp: &Temp) -> Vec<(Vec<u8>, (&'static str, u32, u32))> {
     let usual = usual_master(temp);
-    let number = |path: &str| json("find", &usual, &[path]).at("entry").number() as u32;
+    let number = |path: &str| json("find", &usual, &[path]).at("number").number() as u32;
     let edits = [
         ("move", "audio/theme.adp", 0x19_0000),
         ("move", "audio/silence.adp", 0x7_0000),
@@ -374,51 +374,51 @@ fn place_edits(temp: &Temp) -> Vec<(Vec<u8>, (&'static str, u32, u32))> {
 #[test]
 fn the_guides_station_goes_on_after_every_cut() {
     let station = Station::new();
-    for (before, edit) in place_edits(&station.temp) {
-        for record in [None, Some(of_teams())] {
-            let (after, counted) = whole(&before, record, edit).unwrap();
-            let mut synced = before.clone();
-            for cut in 0..=DONE {
-                let cut_there = || {
-                    station.begin(&before, record.as_ref());
-                    let run = station.run(edit, Some(cut));
-                    assert_eq!(run.status, 99, "{edit:?} {cut}: {}", run.err);
-                };
-                cut_there();
-                let image = fs::read(&station.image).unwrap();
-                if [COPY_SYNCED, TABLE_SYNCED, ZEROS_SYNCED].contains(&cut) {
-                    synced = image.clone();
-                }
-                // What was not synced yet is there, or lost; the note may be torn too.
-                let mut left = vec![(image.clone(), cut >= TABLE_WRITTEN, None)];
-                if image != synced {
-                    left.push((synced.clone(), cut > TABLE_SYNCED, None));
-                }
-                if cut == NOTE_WRITTEN {
-                    left.extend([0, 100].map(|len| (image.clone(), false, Some(len))));
-                }
-                for (image, has_new_table, note) in left {
-                    let what = format!("{edit:?} {cut} {has_new_table} {note:?}");
-                    cut_there();
-                    fs::write(&station.image, &image).unwrap();
-                    if let Some(len) = note {
-                        let note = fs::OpenOptions::new().write(true).open(&station.note).unwrap();
-                        note.set_len(len).unwrap();
-                    }
-                    station.reads_as(if has_new_table { &after } else { &before }, &what);
-                    if cut < DONE {
-                        let run = station.run(edit, None);
-                        assert_eq!(run.status, 0, "{what}: {}", run.err);
-                    }
-                    assert!(fs::read(&station.image).unwrap() == after, "{what}");
-                    assert_eq!(station.kept(), counted.slots(), "{what}");
-                    assert!(!station.note.exists(), "{what}");
-                }
+    for (i, (before, edit)) in place_edits(&station.temp).into_iter().enumerate() {
+        // A record that is there, and none, by turns.
+        let record = (i % 2 == 0).then(of_teams);
+        let (after, counted) = whole(&before, record, edit).unwrap();
+        let mut synced = before.clone();
+        for cut in 0..=DONE {
+            let cut_there = || {
+                station.begin(&before, record.as_ref());
+                let run = station.run(edit, Some(cut));
+                assert_eq!(run.status, 99, "{edit:?} {cut}: {}", run.err);
+            };
+            cut_there();
+            let image = fs::read(&station.image).unwrap();
+            if [COPY_SYNCED, TABLE_SYNCED, ZEROS_SYNCED].contains(&cut) {
+                synced = image.clone();
             }
-            // It has no other step.
-            station.begin(&before, record.as_ref());
-            assert_eq!(station.run(edit, Some(DONE + 1)).status, 0);
+            // What was not synced yet is there, or lost; the note may be torn too.
+            let mut left = vec![(image.clone(), cut >= TABLE_WRITTEN, None)];
+            if image != synced {
+                left.push((synced.clone(), cut > TABLE_SYNCED, None));
+            }
+            if cut == NOTE_WRITTEN {
+                left.extend([0, 100].map(|len| (image.clone(), false, Some(len))));
+            }
+            for (image, has_new_table, note) in left {
+                let what = format!("{edit:?} {cut} {has_new_table} {note:?}");
+                cut_there();
+                fs::write(&station.image, &image).unwrap();
+                if let Some(len) = note {
+                    let note = fs::OpenOptions::new().write(true).open(&station.note).unwrap();
+                    note.set_len(len).unwrap();
+                }
+                station.reads_as(if has_new_table { &after } else { &before }, &what);
+                if cut < DONE {
+                    let run = station.run(edit, None);
+                    assert_eq!(run.status, 0, "{what}: {}", run.err);
+                }
+                assert!(fs::read(&station.image).unwrap() == after, "{what}");
+                assert_eq!(station.kept(), counted.slots(), "{what}");
+                assert!(!station.note.exists(), "{what}");
+            }
         }
+        // It has no other step.
+        station.begin(&before, record.as_ref());
+        assert_eq!(station.run(edit, Some(DONE + 1)).status, 0);
     }
 }
 
