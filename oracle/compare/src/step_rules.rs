@@ -143,7 +143,12 @@ impl Parts {
         let Ok(new) = rules::open(after, usize::MAX) else {
             return Some("the table: the image does not open");
         };
-        let right = self.tree(tree);
+        let mut right = self.tree(tree);
+        if self.table.is_some() {
+            // What is written there is right.
+            let directories = right.entries.iter_mut().filter(|entry| entry.directory);
+            directories.for_each(|entry| entry.offset = entry.parent as u32);
+        }
         if new.entries != right.entries
             || new.maximum != tree.maximum
             || new.program != tree.program

@@ -858,6 +858,42 @@ fn random(run: &mut Run, seed: u64, images: u64) {
     }
 }
 
+/// An edit of this kind, which half of the time is one that has a place.
+fn edit(r: &mut Random, tree: &Tree, kind: usize) -> Call {
+    let files = (1..tree.entries.len()).filter(|number| !tree.entries[*number].directory);
+    let files: Vec<usize> = files.collect();
+    if files.is_empty() || r.chance(50) {
+        return match kind {
+            0 => calls::move_file(r, tree),
+            _ => calls::resize_file(r, tree),
+        };
+    }
+    let number = *r.pick(&files);
+    let (at, size) = (tree.entries[number].offset as u64, tree.entries[number].size as u64);
+    let most = tree.most(at, size);
+    let place = tree.place(0, rules::ALIGN).map_or(0, |(_, rest)| rest);
+    if kind == 1 {
+        let size = match r.below(5) {
+            0..=2 if place > most => most + 1 + r.next() % (place - most),
+            0 | 1 if most > size => size + 1 + r.next() % (most - size),
+            2 | 3 if size > 0 => r.next() % size,
+            _ => size.saturating_sub(1),
+        };
+        return Call::Resize(number as u32, size as u32);
+    }
+    let long = tree.free.iter().filter(|(_, length)| *length > 0 && *length >= size);
+    let to = match long.collect::<Vec<_>>()[..] {
+        [] => at,
+        ref regions => {
+            let (start, length) = **r.pick(regions);
+            let last = start + length - size;
+            let inside = start + r.next() % (length - size + 1);
+            *r.pick(&[start, last, last, inside, inside])
+        }
+    };
+    Call::Move(number as u32, to as u32)
+}
+
 /// A move of each image (`kind` 0) or a resize (1); the image is then one of those on the way.
 fn step(run: &mut Run, walks: &mut [Walk], kind: usize) {
     let (mut lines, mut groups) = (Batch::default(), vec![]);
@@ -866,16 +902,13 @@ fn step(run: &mut Run, walks: &mut [Walk], kind: usize) {
         let tree = case.opened.clone().unwrap();
         let earlier = last[kind].take().filter(|_| case.r.chance(60));
         let later = earlier.is_some();
-        let call = earlier.unwrap_or_else(|| match kind {
-            0 => calls::move_file(&mut case.r, &tree),
-            _ => calls::resize_file(&mut case.r, &tree),
-        });
+        let call = earlier.unwrap_or_else(|| edit(&mut case.r, &tree, kind));
         if case.aside.chance(15) {
             case.state_for(&mut lines, &call);
         }
         let tree = case.opened.clone().unwrap();
-        let memory = if case.r.chance(70) { (0x4000, 0x8000) } else { case.lend(&call) };
-        let account = case.aside.chance(50).then(|| teams::beside(&mut case.aside, &tree, &call));
+        let memory = if case.r.chance(85) { (0x4000, 0x8000) } else { case.lend(&call) };
+        let account = case.aside.chance(30).then(|| teams::beside(&mut case.aside, &tree, &call));
         let mut group = ask_group(&mut lines, (i, case), call, memory.into(), account, AGAIN);
         group.later = later;
         let least = 4 * (tree.entries.len() + 2);
