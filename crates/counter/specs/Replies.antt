@@ -26,6 +26,7 @@ use Rattle.totals.specs.declared.Totals.{Totals}
 use Rattle.executable.specs.Program.{Program}
 use Rattle.window.specs.declared.Window.{Window}
 use Rattle.edit_rules.specs.Edits.{number_behind}
+use Rattle.steps.specs.Promise.{span_behind}
 
 -- the number that a call returns, and its slots afterwards
 pub record Reply : Type 0 where
@@ -148,3 +149,8 @@ done_number v k = number_told v
 
 abbrev pub entry_reply : List ℕ → Verdict → ℕ → Reply
 entry_reply before v k = reply_of one_word before (number_behind v k)
+
+-- for `WritesTable`: what is left to be zeroed
+
+abbrev pub span_reply : List ℕ → Verdict → DiscRegion → Reply
+span_reply before v span = reply_of region_words before (span_behind v span)

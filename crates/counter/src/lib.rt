@@ -8,6 +8,7 @@ mod editing;
 mod headers;
 mod masters;
 mod names;
+mod parts;
 mod reading;
 mod regions;
 mod text;
@@ -20,6 +21,9 @@ pub use editing::{
 pub use headers::{counter_header, counter_open_dol};
 pub use masters::counter_master;
 pub use names::{counter_component, counter_name, counter_unit};
+pub use parts::{
+    counter_move_copy, counter_move_table, counter_resize_copy, counter_resize_table, counter_zero,
+};
 pub use reading::{
     counter_entries, counter_entry, counter_fault, counter_lookup, counter_make_record,
     counter_open, counter_program, counter_table_anew, counter_totals,

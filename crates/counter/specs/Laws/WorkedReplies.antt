@@ -10,7 +10,7 @@ use Rattle.totals.specs.declared.Totals.{Totals}
 use Rattle.window.specs.declared.Window.{Window}
 use Rattle.opened.specs.declared.faults.Owner.TheVariants as owner
 use Rattle.opened.specs.declared.faults.About.TheVariants as about
-use Rattle.counter.specs.Replies.{reply, accepted_reply, reply_of, fault_words, disc_words, disc_totals_words, region_words, one_word, window_in, window_words, totals_words, unit_words, dol_words, program_reply, found_reply, dol_reply, dol_window_reply, done_number, entry_reply}
+use Rattle.counter.specs.Replies.{reply, accepted_reply, reply_of, fault_words, disc_words, disc_totals_words, region_words, one_word, window_in, window_words, totals_words, unit_words, dol_words, program_reply, found_reply, dol_reply, dol_window_reply, done_number, entry_reply, span_reply}
 
 -- slots as they were before the call
 abbrev old : List ℕ
@@ -127,6 +127,12 @@ refused-slots :
     (dol_window_reply old (Err InvalidDol) ≡ reply 24 old)
 unfolding program_reply found_reply
 refused-slots = (refl, refl, refl, refl, refl, refl, refl, refl, refl, refl, refl, refl, refl, refl)
+
+-- "span[2]: offset, size", and as it was on a refusal
+span-slots :
+    (span_reply old (Ok tt) (record { offset = 1; size = 2 }) ≡ reply 0 (1 ∷ 2 ∷ [])) ×
+    (span_reply old (Err NoSuchEntry) (record { offset = 1; size = 2 }) ≡ reply 15 old)
+span-slots = (refl, refl)
 
 -- "Every function returns 0 where it is accepted, and else the number of the first test that failed"
 done-number : (done_number (Ok tt) 1 ≡ 0) × (done_number (Err NotEnoughSpace) 1 ≡ 21)

@@ -56,7 +56,7 @@ bytes-only [] e i = omega arith
 bytes-only (x ∷ xs) e zero = ltb-true x 256 (and_left (ltb x 256) (bytes_only xs) e)
 bytes-only (x ∷ xs) e (suc i) = bytes-only xs (and_right (ltb x 256) (bytes_only xs) e) i
 
-bytes : AllBytes first
+pub bytes : AllBytes first
 unfolding first stating master put bytes_only
 bytes = bytes-only first refl
 
@@ -69,7 +69,7 @@ unfolding bytes_only
 clip-bytes = bytes-only clip refl
 
 -- no call is lent more words than the first opening
-within : (w : ℕ) → master_words ≤ w → AllWithin w list
+pub within : (w : ℕ) → master_words ≤ w → AllWithin w list
 unfolding list
 within w h = (omega arith, tt, (omega arith, tt, (omega arith, omega arith, (omega arith, omega arith, (omega arith, clip-bytes, (omega arith, omega arith, (omega arith, tt, tt)))))))
 

@@ -37,7 +37,7 @@ fresh = held 1630 6140 0
 
 -- of images that read so, with the plan, its tests and what it writes; each call is lent as many working bytes as a table of four entries would
 -- have
-planned : {image next : List ℕ} {nodes nodes' : List Node} {free free' : List DiscRegion} {size size' used used' : ℕ} → Reads image nodes free size used → Reads next nodes' free' size' used' →
+pub planned : {image next : List ℕ} {nodes nodes' : List Node} {free free' : List DiscRegion} {size size' used used' : ℕ} → Reads image nodes free size used → Reads next nodes' free' size' used' →
     (ed : Edit) (p : Plan) → plan_of ed (disc_of image) ≡ p → plan_verdict p (disc_of image) master_words 0x36 ≡ Ok tt → plan_image p image ≡ next → Planned 0x36 ed image next (to used used' (total_size free') (largest_size free'))
 planned r r' ed p plan tests writes = record { opens = r.opens; tests = rw plan tests; writes = rw plan writes; change = rw (total r, total r', space r') }
 

@@ -54,6 +54,7 @@ at_256 = record { opens = opens; nodes = nodes; header = header; free = free; us
 
 pub record Sizes : Type 0 where
   pub at_0 : Reads (sized 0) 0 (at 1114 7078 ∷ [])
+  pub at_128 : Reads (sized 128) 128 (at 1114 166 ∷ at 1408 6784 ∷ [])
   pub at_250 : Reads (sized 250) 250 (at 1114 166 ∷ at 1530 6662 ∷ [])
   pub at_252 : Reads (sized 252) 252 (at 1114 166 ∷ at 1532 6660 ∷ [])
   pub at_255 : Reads (sized 255) 255 (at 1114 166 ∷ at 1535 6657 ∷ [])
@@ -67,6 +68,7 @@ pub sizes : Sizes
 unfolding sized master put opening layout_verdict header_verdict all_fields_verdict field_verdict fields bounds_verdict table_of check nodes_in nodes_of nodes_from node_at name_at count entries_verdict entry_verdict is_unended walk name_verdict next_verdict dirs_open_at is_plain is_safe be24 be32 used_in used_of total_size regions_behind_table program_of program_in own_region nonempty_regions are_disjoint_below are_pairwise_disjoint is_disjoint_from_all are_disjoint are_below free_regions runs is_used units
 sizes = record {
   at_0 = record { opens = refl; nodes = refl; header = (refl, refl, refl, refl); free = refl; used = refl };
+  at_128 = record { opens = refl; nodes = refl; header = (refl, refl, refl, refl); free = refl; used = refl };
   at_250 = record { opens = refl; nodes = refl; header = (refl, refl, refl, refl); free = refl; used = refl };
   at_252 = record { opens = refl; nodes = refl; header = (refl, refl, refl, refl); free = refl; used = refl };
   at_255 = record { opens = refl; nodes = refl; header = (refl, refl, refl, refl); free = refl; used = refl };
@@ -109,6 +111,7 @@ Writes image n m = plan_image (resize n m) image ≡ sized m
 
 record Written : Type 0 where
   pub to_0 : Writes master 0x100 0
+  pub to_128 : Writes master 0x100 128
   pub to_250 : Writes master 0x100 250
   pub to_252 : Writes master 0x100 252
   pub to_255 : Writes master 0x100 255
@@ -122,7 +125,7 @@ record Written : Type 0 where
 
 written : Written
 unfolding sized master put be32 texts_of encode entries_bytes parent_of parent_below written_image image_with_table set_place
-written = record { to_0 = refl; to_250 = refl; to_252 = refl; to_255 = refl; to_257 = refl; to_756 = refl; to_757 = refl; to_7 = refl; to_6911 = refl; to_6912 = refl; to_1 = refl }
+written = record { to_0 = refl; to_128 = refl; to_250 = refl; to_252 = refl; to_255 = refl; to_257 = refl; to_756 = refl; to_757 = refl; to_7 = refl; to_6911 = refl; to_6912 = refl; to_1 = refl }
 
 -- of an image where `a` has n bytes, to m bytes
 abbrev Resized : List ℕ → ℕ → ℕ → ℕ → ℕ → Type 0
@@ -133,6 +136,7 @@ resized r r' plan tests writes = record { opens = r.opens; tests = rw plan tests
 
 pub record Resizes : Type 0 where
   pub to_0 : Resized master 0x100 0 7078 7078
+  pub to_128 : Resized master 0x100 128 6950 6784
   pub to_250 : Resized master 0x100 250 6828 6662
   pub to_252 : Resized master 0x100 252 6826 6660
   pub to_255 : Resized master 0x100 255 6823 6657
@@ -152,6 +156,7 @@ resizes =
     let c = sizes.at_6911 in
     record {
       to_0 = resized at_256 sizes.at_0 (rw nodes) (rw (free, header.3, header.0, header.1)) written.to_0;
+      to_128 = resized at_256 sizes.at_128 (rw nodes) (rw (free, header.3, header.0, header.1)) written.to_128;
       to_250 = resized at_256 a (rw nodes) (rw (free, header.3, header.0, header.1)) written.to_250;
       to_252 = resized at_256 sizes.at_252 (rw nodes) (rw (free, header.3, header.0, header.1)) written.to_252;
       to_255 = resized at_256 sizes.at_255 (rw nodes) (rw (free, header.3, header.0, header.1)) written.to_255;

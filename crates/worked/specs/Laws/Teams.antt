@@ -40,7 +40,7 @@ unbounded = team most 0 0 0
 -- ---- what a team has taken, and its limit
 
 -- 9 bytes of 5
-abbrev above : Account
+abbrev pub above : Account
 above = by 0 (team 5 0 9 0 ∷ [])
 
 -- of two teams the one that edits may take 500 bytes
@@ -95,7 +95,7 @@ limits-worked =
 -- ---- what is kept for the other teams
 
 -- so much for team 1
-abbrev keeping : ℕ → Account
+abbrev pub keeping : ℕ → Account
 keeping share = by 0 (unbounded ∷ team most share 0 0 ∷ [])
 
 -- for teams 0 and 2, while team 1 edits
@@ -185,7 +185,7 @@ abbrev due : ℕ → ℕ → Account
 due limit share = by 0 (team limit 0 9 most ∷ team most share 0 0 ∷ [])
 
 -- the last of 16 teams
-abbrev last : ℕ → Account
+abbrev pub last : ℕ → Account
 last k = by k (replicate 15 (new_team 0 0) ++ (unbounded ∷ []))
 
 -- a path of 1,025 bytes
@@ -225,11 +225,11 @@ path-last : answer (make_directories 0 long) (last 15) ≡ Err LimitOrMemory
 unfolding verdict_of counted_verdict team_verdict plan_make_directories
 path-last = rw opens
 
-few-words : opening master 15 ≡ Err LimitOrMemory
+pub few-words : opening master 15 ≡ Err LimitOrMemory
 unfolding master put opening header_verdict all_fields_verdict field_verdict fields bounds_verdict table_of check nodes_in nodes_of nodes_from node_at name_at count entries_verdict entry_verdict is_unended be24 be32
 few-words = refl
 
-no-image : opening [] master_words ≡ Err HeaderPastImage
+pub no-image : opening [] master_words ≡ Err HeaderPastImage
 unfolding opening header_verdict all_fields_verdict field_verdict fields
 no-image = refl
 
