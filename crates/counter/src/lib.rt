@@ -8,10 +8,10 @@ mod editing;
 mod headers;
 mod masters;
 mod names;
-mod parts;
 mod reading;
 mod regions;
 mod text;
+mod three_calls;
 mod windows;
 
 pub use editing::{
@@ -21,9 +21,6 @@ pub use editing::{
 pub use headers::{counter_header, counter_open_dol};
 pub use masters::counter_master;
 pub use names::{counter_component, counter_name, counter_unit};
-pub use parts::{
-    counter_move_copy, counter_move_table, counter_resize_copy, counter_resize_table, counter_zero,
-};
 pub use reading::{
     counter_entries, counter_entry, counter_fault, counter_lookup, counter_make_record,
     counter_open, counter_program, counter_table_anew, counter_totals,
@@ -33,6 +30,9 @@ pub use regions::{
     counter_max_region_size,
 };
 pub use text::{counter_list, counter_report};
+pub use three_calls::{
+    counter_move_copy, counter_move_table, counter_resize_copy, counter_resize_table, counter_zero,
+};
 pub use windows::{
     counter_open_file, counter_read, counter_seek_current, counter_seek_end, counter_seek_start,
 };

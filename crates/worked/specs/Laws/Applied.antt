@@ -81,7 +81,7 @@ spared = rw at_first.tree (λ e. refl, (λ e. refl, (λ e. absurd (false≢true 
 -- ---- what holds after the list
 
 -- what the claim comes to for the file with entry number k, whichever that is
-any_file : {w : ℕ} {first image : List ℕ} {l : Ledger} → LedgerHolds w first image l →
+pub any_file : {w : ℕ} {first image : List ℕ} {l : Ledger} → LedgerHolds w first image l →
     (k : ℕ) (nm : List ℕ) (offset size : ℕ) → get_or (nodes_in image) k empty_root ≡ file nm offset size → (h : History) → history_of l k ≡ h →
     (h.m ≤ size) × (h.m ≤ length h.bytes) × (span image offset h.m ≡ take h.m h.bytes)
     × (h.named ≡ false → (offset ≡ h.place) × (size ≡ length h.bytes) × (span image offset size ≡ h.bytes))
