@@ -29,7 +29,10 @@ fn give_copy(
         (loan image.old words.old bytes.old totals.now)
         (loan image.new words.new bytes.new totals.now) result }
 {
-    give(&mut (), steps::copy(image, words, bytes, totals, team, edit))
+    give(
+        &mut (),
+        steps::copy(image, words, bytes, totals, team, edit),
+    )
 }
 
 #[unsafe(no_mangle)]
@@ -95,7 +98,10 @@ fn give_table(
         (loan image.old words.old bytes.old totals.old)
         (loan image.new words.new bytes.new totals.new) (reply result (region_words span.new)) }
 {
-    give(span, steps::write_table(image, words, bytes, totals, team, edit))
+    give(
+        span,
+        steps::write_table(image, words, bytes, totals, team, edit),
+    )
 }
 
 #[unsafe(no_mangle)]
@@ -153,17 +159,15 @@ pub extern "C" fn counter_resize_table(
 // ---- the zeros
 
 #[unsafe(no_mangle)]
-pub extern "C" fn counter_zero(
-    image: &mut [u8],
-    words: &mut [u32],
-    offset: u32,
-    size: u32,
-) -> u32
+pub extern "C" fn counter_zero(image: &mut [u8], words: &mut [u32], offset: u32, size: u32) -> u32
     ensures number { let span : DiscRegion = record { offset = offset; size = size } in
         result ≡ number_told (zero_verdict image.old (length words.old) span) }
     ensures image_after { let span : DiscRegion = record { offset = offset; size = size } in
         image.new ≡ image_after_zeros image.old (length words.old) span }
     ensures words_zero { words.new ≡ zeros words.old }
 {
-    give(&mut (), steps::zero(image, words, DiscRegion { offset, size }))
+    give(
+        &mut (),
+        steps::zero(image, words, DiscRegion { offset, size }),
+    )
 }
