@@ -8,7 +8,6 @@ use Rattle.refusal.specs.declared.Refusal.{Refusal}
 use Rattle.refusal.specs.declared.Refusal.TheVariants.{HeaderPastImage, LimitOrMemory, NoSuchEntry, TakenAboveLimit, FreeBelowShares, SpanNotFree}
 use Rattle.refusal.specs.Refusal.{Verdict, number_of}
 use Rattle.space.specs.declared.region.DiscRegion.{DiscRegion}
-use Rattle.space.specs.Used.{no_region}
 use Rattle.space.specs.MaxRegionSize.{size_beside_free, max_size_from}
 use Rattle.totals.specs.Totals.{remainders, team_verdict, totals_verdict, moved_totals}
 use Rattle.opened.specs.Opening.{disc_of}
