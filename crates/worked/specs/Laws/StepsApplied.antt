@@ -1,9 +1,10 @@
 -- The theorems about an edit in three calls, applied to a move of `a` after the worked list, of a team whose record holds what the image does not
 -- say: their hypotheses hold there, and what they say is read off in numbers. Assumes nothing.
 use Rattle.std.specs.Prelude.{Ok, Err}
-use Rattle.std.specs.Prelude.{ℕ, ◌≤◌, ◌≡◌, refl, false, List, [], ◌∷◌, ◌++◌, map, replicate, slice_index_or}
-use Rattle.std.proofs.Common.{ap, arith, ◌∙◌}
+use Rattle.std.specs.Prelude.{ℕ, ◌≤◌, ◌≡◌, refl, false, List, [], ◌∷◌, ◌++◌, map, length, replicate, slice_index, slice_index_or}
+use Rattle.std.proofs.Common.{ap, arith, sym, ◌∙◌}
 use Rattle.endian.specs.Bytes.{be24, be32, be32_bytes, put, span, AllBytes}
+use Rattle.refusal.specs.declared.Refusal.TheVariants.{SpanNotFree}
 use Rattle.header.specs.Fields.{fields}
 use Rattle.header.specs.Verdicts.{field_verdict, all_fields_verdict, header_verdict, bounds_verdict}
 use Rattle.tree.specs.Units.{units}
@@ -22,10 +23,13 @@ use Rattle.edit_rules.specs.Change.{Change, change, image_with_table, written_im
 use Rattle.edit_rules.specs.Edits.{Edit, Account, account, move_file, relocation_change, plan_move, plan_of, plan_verdict, plan_image, verdict_of, totals_after}
 use Rattle.ledger.specs.Ledger.{Ledger, node_without_place, files_before, first_histories, history_of, first_ledger, ledger_with}
 use Rattle.ledger.specs.Theorem.{LedgerHolds}
-use Rattle.steps.specs.Parts.{zero_verdict, image_after_zeros}
+use Rattle.steps.specs.Parts.{image_after_table, zero_verdict, image_after_zeros}
+use Rattle.steps.specs.Places.{DifferOnlyIn, DifferOnlyInTable, IsWhollyFree}
 use Rattle.steps.specs.Theorem.{first_cut, second_cut, span_left, ReadsAs, IsDoneByThree}
 use Rattle.steps.proofs.Laws.ThreeCalls.{three-calls}
 use Rattle.steps.proofs.Laws.CutsKept.{cuts-kept}
+use Rattle.steps.proofs.Laws.OwnParts.{own-copy, own-table, own-zeros}
+use Rattle.steps.proofs.Laws.WhollyFree.{zeroes-what-is-free}
 use Rattle.worked.specs.Image.{master, master_words}
 use Rattle.worked.specs.Laws.Handed.{most, team, teams}
 use Rattle.worked.specs.Laws.Marked.{at}
@@ -191,3 +195,57 @@ second-holds w h =
       of-a = λ nm offset size e. let f = any_file d 1 nm offset size e _ refl in (f.0, f.2);
       of-b = λ nm offset size e. let f = any_file d 2 nm offset size e _ refl in (f.0, f.2);
     }
+
+-- ---- each call's own part, by single bytes: of `a` at its old place and at its new one, and of the program
+
+first-part : DifferOnlyIn last cut₁ (at 0x600 0x100)
+first-part = rw move-plan at (own-copy move by_1 last master_words 0x36 (omega arith) last-bytes)
+
+-- the table with no copy before it
+abbrev tabled : List ℕ
+tabled = image_after_table move by_1 last master_words 0x36
+
+second-part : DifferOnlyInTable last tabled 0x28
+unfolding texts_of encode entries_bytes parent_of parent_below set_place
+second-part = rw move-plan at (own-table move by_1 last master_words 0x36 (omega arith) last-bytes)
+
+abbrev zeroed : List ℕ
+zeroed = image_after_zeros last master_words (at 2052 252)
+
+third-part : DifferOnlyIn last zeroed (at 2052 252)
+third-part = own-zeros last master_words (at 2052 252) last-bytes
+
+last-has : (slice_index last 0x507 ≡ 8) × (slice_index last 0x607 ≡ 0) × (slice_index last 0x803 ≡ 0xD4) × (length last ≡ 0x2000)
+unfolding with_b first stating master put
+last-has = (refl, refl, refl, refl)
+
+pub record OwnParts : Type 0 where
+  pub first : (slice_index cut₁ 0x507 ≡ 8) × (slice_index cut₁ 0x803 ≡ 0xD4) × (length cut₁ ≡ 0x2000)
+  -- the new place holds what the free space held
+  pub second : (slice_index tabled 0x507 ≡ 8) × (slice_index tabled 0x607 ≡ 0) × (length tabled ≡ 0x2000)
+  pub third : (slice_index zeroed 0x803 ≡ 0xD4) × (length zeroed ≡ 0x2000)
+
+pub own-parts : OwnParts
+own-parts =
+    let h = at_last.header in
+    record {
+      first = (first-part.same 0x507 refl ∙ last-has.0, first-part.same 0x803 refl ∙ last-has.2, first-part.len ∙ last-has.3);
+      second = (
+        second-part.same 0x507 refl (rw (h.0, h.1)) (rw h.0) ∙ last-has.0,
+        second-part.same 0x607 refl (rw (h.0, h.1)) (rw h.0) ∙ last-has.1,
+        second-part.len ∙ last-has.3,
+      );
+      third = (third-part.same 0x803 refl ∙ last-has.2, third-part.len ∙ last-has.3);
+    }
+
+-- ---- which spans are free: behind the program, and not where `a` lies
+
+verdicts : (zero_verdict last master_words (at 2052 252) ≡ Ok tt) × (zero_verdict last master_words (at 0x500 0x100) ≡ Err SpanNotFree)
+unfolding zero_verdict max_size_from size_beside_free
+verdicts = (rw (at_last.opens, space at_last), rw (at_last.opens, space at_last))
+
+pub free : IsWhollyFree last (at 2052 252)
+free = (zeroes-what-is-free last master_words (at 2052 252) at_last.opens).0 verdicts.0
+
+pub not-free : ¬ IsWhollyFree last (at 0x500 0x100)
+not-free f = let e : Ok tt ≡ Err SpanNotFree = sym ((zeroes-what-is-free last master_words (at 0x500 0x100) at_last.opens).1 f) ∙ verdicts.1 in cc
