@@ -2,7 +2,7 @@
 -- and which spans the third accepts. Assumes nothing.
 use Rattle.std.specs.Prelude.{Ok, Err, Result}
 use Rattle.std.specs.Prelude.{ℕ, ◌≡◌, refl, List, []}
-use Rattle.endian.specs.Bytes.{put, span}
+use Rattle.endian.specs.Bytes.{be32, put, span}
 use Rattle.endian.specs.Laws.Stored.{put-none}
 use Rattle.refusal.specs.declared.Refusal.{Refusal}
 use Rattle.refusal.specs.declared.Refusal.TheVariants.{HeaderPastImage, LimitOrMemory, NoSuchEntry, TakenAboveLimit, FreeBelowShares, SpanNotFree}
@@ -11,7 +11,12 @@ use Rattle.space.specs.declared.region.DiscRegion.{DiscRegion}
 use Rattle.space.specs.MaxRegionSize.{size_beside_free, max_size_from}
 use Rattle.totals.specs.Totals.{remainders, team_verdict, totals_verdict, moved_totals}
 use Rattle.opened.specs.Opening.{disc_of}
-use Rattle.edit_rules.specs.Edits.{Edit, Account, move_file, resize_file, plan_move, plan_resize, plan_of, verdict_of}
+use Rattle.tree.specs.Table.{is_shallow_from, is_shallow, dirs_open_at, limits, texts_of, encode, entries_bytes, parent_of, parent_below}
+use Rattle.tree.specs.Insert.{set_place}
+use Rattle.space.specs.Used.{total_size}
+use Rattle.space.specs.Free.{largest_size}
+use Rattle.edit_rules.specs.Change.{Change, change, table_verdict, place_verdict, written_image, image_with_table}
+use Rattle.edit_rules.specs.Edits.{Edit, Account, move_file, resize_file, relocation_change, plan_move, plan_resize, plan_of, plan_verdict, plan_image, verdict_of}
 use Rattle.steps.specs.Parts.{plan_copied, plan_span, image_after_copy, image_after_table, zero_verdict, image_after_zeros}
 use Rattle.steps.specs.Promise.{span_behind}
 use Rattle.steps.specs.Theorem.{first_cut, span_left}
@@ -19,8 +24,9 @@ use Rattle.worked.specs.Image.{master, master_words, master_bytes}
 use Rattle.worked.specs.Laws.Marked.{at, opens, nodes, free, fresh, marked}
 use Rattle.worked.specs.Laws.Planned.{accepted-by, refused-by}
 use Rattle.worked.specs.Laws.OnMaster.{answer, costless, resizes}
-use Rattle.worked.specs.Laws.ListImages.{with_b}
-use Rattle.worked.specs.Laws.ListSteps.{held, move-plan, moved}
+use Rattle.worked.specs.Laws.ListImages.{first, with_b, tree_b, space, at-inserted, at_moved}
+use Rattle.worked.specs.Laws.ListSteps.{held, planned}
+use Rattle.worked.specs.Laws.Maximum.{stating}
 use Rattle.worked.specs.Laws.Teams.{above, keeping, last, few-words, no-image}
 
 -- ---- what the second call answers on the image that the first one left
@@ -38,7 +44,7 @@ pub record Spans : Type 0 where
   -- nothing by a growth where the file is, by a resize to its size, and by an empty file's move
   pub grown : second (resize_file 1 6912) fresh master master_bytes ≡ Ok (at 0 0)
   pub same_size : second (resize_file 1 256) fresh master master_bytes ≡ Ok (at 0 0)
-  pub empty : second (move_file 2 0x900) (held 1644 6140 1) (with_b 0 0 []) 0x36 ≡ Ok (at 0 0)
+  pub empty : second (move_file 2 0) (held 1644 6140 2) (with_b 0x900 0 []) 0x36 ≡ Ok (at 0 0)
   -- the lost end, and the old place
   pub shrunk : second (resize_file 1 128) fresh master master_bytes ≡ Ok (at 1408 128)
   pub moved : second (move_file 1 1536) fresh master master_bytes ≡ Ok (at 1280 256)
@@ -48,8 +54,28 @@ copied_a : put master 1536 (span master 1280 256) ≡ master
 unfolding master put
 copied_a = refl
 
-empty : second (move_file 2 0x900) (held 1644 6140 1) (with_b 0 0 []) 0x36 ≡ Ok (at 0 0)
-empty = second-is (move_file 2 0x900) (held 1644 6140 1) (with_b 0 0 []) 0x36 (at 0 0) moved.answered (rw move-plan (put-none (with_b 0 0 []) 0x900)) (rw move-plan)
+-- `b`, which is empty, from 0x900 to 0
+abbrev back_b : Change
+back_b = relocation_change (tree_b 0x900 0) 2 (at 0x900 0) (at 0 0)
+
+back-plan : plan_of (move_file 2 0) (disc_of (with_b 0x900 0 [])) ≡ change 2 back_b
+unfolding plan_move max_size_from size_beside_free
+back-plan = rw (at_moved.tree, space at_moved)
+
+back-tests : plan_verdict (change 2 back_b) (disc_of (with_b 0x900 0 [])) master_words 0x36 ≡ Ok tt
+unfolding table_verdict place_verdict limits is_shallow is_shallow_from dirs_open_at texts_of encode entries_bytes parent_of parent_below max_size_from size_beside_free set_place
+back-tests = rw (space at_moved, at_moved.header.2, at_moved.header.0, at_moved.header.1)
+
+back-writes : plan_image (change 2 back_b) (with_b 0x900 0 []) ≡ with_b 0 0 []
+unfolding with_b first stating master put be32 texts_of encode entries_bytes parent_of parent_below written_image image_with_table set_place
+back-writes = refl
+
+back : verdict_of (move_file 2 0) (held 1644 6140 2) (with_b 0x900 0 []) master_words 0x36 ≡ Ok tt
+unfolding team_verdict totals_verdict remainders moved_totals largest_size total_size
+back = (accepted-by (planned at_moved at-inserted (move_file 2 0) _ back-plan back-tests back-writes) (held 1644 6140 2) refl).answered
+
+empty : second (move_file 2 0) (held 1644 6140 2) (with_b 0x900 0 []) 0x36 ≡ Ok (at 0 0)
+empty = second-is (move_file 2 0) (held 1644 6140 2) (with_b 0x900 0 []) 0x36 (at 0 0) back (rw back-plan (put-none (with_b 0x900 0 []) 0)) (rw back-plan)
 
 pub spans-worked : Spans
 unfolding team_verdict totals_verdict remainders moved_totals plan_move plan_resize max_size_from size_beside_free

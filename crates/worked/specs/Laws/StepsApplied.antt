@@ -4,7 +4,7 @@ use Rattle.std.specs.Prelude.{Ok, Err}
 use Rattle.std.specs.Prelude.{ℕ, ◌≤◌, ◌≡◌, refl, false, List, [], ◌∷◌, ◌++◌, map, length, replicate, slice_index, slice_index_or}
 use Rattle.std.proofs.Common.{ap, arith, sym, ◌∙◌}
 use Rattle.endian.specs.Bytes.{be24, be32, be32_bytes, put, span, AllBytes}
-use Rattle.refusal.specs.declared.Refusal.TheVariants.{SpanNotFree}
+use Rattle.refusal.specs.declared.Refusal.TheVariants.{NoSuchEntry, FreeBelowShares, SpanNotFree}
 use Rattle.header.specs.Fields.{fields}
 use Rattle.header.specs.Verdicts.{field_verdict, all_fields_verdict, header_verdict, bounds_verdict}
 use Rattle.tree.specs.Units.{units}
@@ -23,7 +23,7 @@ use Rattle.edit_rules.specs.Change.{Change, change, image_with_table, written_im
 use Rattle.edit_rules.specs.Edits.{Edit, Account, account, move_file, relocation_change, plan_move, plan_of, plan_verdict, plan_image, verdict_of, totals_after}
 use Rattle.ledger.specs.Ledger.{Ledger, node_without_place, files_before, first_histories, history_of, first_ledger, ledger_with}
 use Rattle.ledger.specs.Theorem.{LedgerHolds}
-use Rattle.steps.specs.Parts.{image_after_table, zero_verdict, image_after_zeros}
+use Rattle.steps.specs.Parts.{image_after_copy, image_after_table, zero_verdict, image_after_zeros}
 use Rattle.steps.specs.Places.{DifferOnlyIn, DifferOnlyInTable, IsWhollyFree}
 use Rattle.steps.specs.Theorem.{first_cut, second_cut, span_left, ReadsAs, IsDoneByThree}
 use Rattle.steps.proofs.Laws.ThreeCalls.{three-calls}
@@ -34,7 +34,7 @@ use Rattle.worked.specs.Image.{master, master_words}
 use Rattle.worked.specs.Laws.Handed.{most, team, teams}
 use Rattle.worked.specs.Laws.Marked.{at}
 use Rattle.worked.specs.Laws.Maximum.{stating}
-use Rattle.worked.specs.Laws.Planned.{Step, accepted-by}
+use Rattle.worked.specs.Laws.Planned.{Step, accepted-by, refused-by}
 use Rattle.worked.specs.Laws.ListImages.{of_a, first, clip, with_b, last, Reads, space, total, tree_b, at_first, at_last}
 use Rattle.worked.specs.Laws.ListSteps.{planned}
 use Rattle.worked.specs.Laws.WorkedList.{list, ledger, worked}
@@ -249,3 +249,28 @@ free = (zeroes-what-is-free last master_words (at 2052 252) at_last.opens).0 ver
 
 pub not-free : ¬ IsWhollyFree last (at 0x500 0x100)
 not-free f = let e : Ok tt ≡ Err SpanNotFree = sym ((zeroes-what-is-free last master_words (at 0x500 0x100) at_last.opens).1 f) ∙ verdicts.1 in cc
+
+-- ---- refused, a call writes nothing: `a` has bytes, which the copy would put into the new place and the zeros would take
+
+-- more is kept for team 2 than is free
+abbrev too_little : Account
+too_little = account (record { used = 1649; largest = 7; teams = teams (team most 0 19 5 ∷ team 7 5 3 2 ∷ team most 6544 0 0 ∷ []) }) 1
+
+pub record Refused : Type 0 where
+  pub team : image_after_copy move (account (record_with 7 2) 16) last master_words 0x36 ≡ last
+  pub share : image_after_copy move too_little last master_words 0x36 ≡ last
+  pub zeros : image_after_zeros last master_words (at 0x500 0x100) ≡ last
+
+refused-step : (a : Account) (c : _) → Step 0x36 (Err c) move a last last a.totals → image_after_copy move a last master_words 0x36 ≡ last
+unfolding image_after_copy
+refused-step a c s = rw s.answered
+
+pub refused : Refused
+unfolding image_after_zeros team_verdict totals_verdict remainders moved_totals largest_size total_size
+refused =
+    let p = planned at_last at-moved move _ move-plan move-tests move-writes in
+    record {
+      team = refused-step (account (record_with 7 2) 16) NoSuchEntry (refused-by p (account (record_with 7 2) 16) NoSuchEntry refl);
+      share = refused-step too_little FreeBelowShares (refused-by p too_little FreeBelowShares refl);
+      zeros = rw verdicts.1;
+    }
