@@ -3,11 +3,7 @@ ghost use Rattle.std.specs.Prelude.{◌≡◌, length};
 ghost use Rattle.opened.specs.Opening.{zeros};
 ghost use Rattle.edit_rules.specs.Edits as edits;
 ghost use Rattle.edit_rules.specs.Promise.{loan};
-<<<<<<< HEAD
 ghost use Rattle.edit.specs.Asked.{place_edit_of};
-=======
-ghost use Rattle.steps.specs.Asked.{place_edit_of};
->>>>>>> 0c714085ea990c5000dc430af3e3f81ba3333ab6
 ghost use Rattle.steps.specs.Parts.{zero_verdict, image_after_zeros};
 ghost use Rattle.steps.specs.Promise.{MakesCopy, WritesTable};
 ghost use Rattle.counter.specs.Replies.{reply, number_told, region_words, span_reply};

@@ -9,7 +9,7 @@ ghost use Rattle.edit_rules.specs.Promise.{loan, only_verdict, IsEdited};
 ghost use Rattle.ledger.specs.Runs.{IsPassable};
 ghost use Rattle.edit.specs.Inner.Accounting.{account_with, IsAccountedFor, IsForeseen};
 ghost use Rattle.edit.specs.Inner.Decision.{Judges};
-ghost use Rattle.edit.specs.Asked.{edit_of, place_edit_of};
+ghost use Rattle.edit.specs.Asked.{edit_of, place_edit_of, IsPlaceEdit};
 ghost use Rattle.edit.specs.Inner.Decides.{IsEditDecided, clip_of};
 
 use crate::decision::Decision;
@@ -129,10 +129,11 @@ pub fn judge_image(
     team: u32,
     edit: PlaceEdit,
 ) -> Result<Decision, Refusal>
-    ensures { let opened = opening image.now (length words.old) in
+    ensures foreseen { let opened = opening image.now (length words.old) in
         let admitted = first opened (team_verdict team) in
         let plan = plan_behind admitted (plan_of (place_edit_of edit) (disc_of image.now)) in
         IsForeseen plan image.now (length words.old) room (account totals.now team) result }
+    ensures place_edit { IsPlaceEdit (place_edit_of edit) }
 {
     edit.passable();
     let disc = OpenDisc::of_image(image, words)?;

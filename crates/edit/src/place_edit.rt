@@ -28,7 +28,8 @@ impl PlaceEdit {
 
     // Its numbers have 32 bits: known whatever becomes of it.
     pub(crate) fn passable(self)
-        ensures { IsPassable (place_edit_of self) }
+        ensures passable { IsPassable (place_edit_of self) }
+        ensures place_edit { IsPlaceEdit (place_edit_of self) }
     {
         let _ = self;
     }

@@ -5,14 +5,13 @@ use Rattle.endian.specs.Bytes.{AllBytes}
 use Rattle.refusal.specs.declared.Refusal.{Refusal}
 use Rattle.refusal.specs.Refusal.{Verdict, first}
 use Rattle.header.specs.Verdicts.{fst_offset, fst_size}
-use Rattle.tree.specs.Table.{encode}
 use Rattle.space.specs.declared.region.DiscRegion.{DiscRegion}
 use Rattle.totals.specs.declared.Totals.{Totals}
 use Rattle.totals.specs.Totals.{team_verdict}
-use Rattle.opened.specs.Opening.{opening, zeros, nodes_in, disc_of}
+use Rattle.opened.specs.Opening.{opening, zeros, disc_of}
 use Rattle.opened.proofs.Laws.OpeningLaws.{first-assoc}
 use Rattle.edit_rules.specs.Change.{Change, image_with_table, copied_image, Plan, refused, nothing, change, filled}
-use Rattle.edit_rules.specs.Edits.{Edit, Account, account, plan_behind, plan_of, plan_tree, plan_image, counted_verdict, verdict_of, totals_to, totals_after}
+use Rattle.edit_rules.specs.Edits.{Edit, Account, account, plan_behind, plan_of, plan_image, counted_verdict, verdict_of, totals_to, totals_after}
 use Rattle.edit_rules.specs.Promise.{loan}
 use Rattle.edit.specs.declared.decision.Span.{Span}
 use Rattle.edit.specs.declared.decision.Writing.{Writing}
@@ -23,10 +22,10 @@ use Rattle.edit.specs.declared.pipeline.Edit.TheVariants as edit
 use Rattle.edit.specs.Asked.{edit_of}
 use Rattle.edit.specs.Inner.Decides.{clip_of}
 use Rattle.edit.specs.Inner.Decision.{IsCarried, carried_verdict, CanCopy, copied_by, CanTable, tabled_by, lost_by, DecidedAs}
-use Rattle.edit.specs.Inner.Accounting.{account_with, IsAccountedFor}
+use Rattle.edit.specs.Inner.Accounting.{account_with, IsAccountedFor, IsForeseen}
 use Rattle.edit.specs.Asked.{IsPlaceEdit}
 use Rattle.steps.specs.Places.{DifferOnlyIn, DifferOnlyInTable}
-use Rattle.steps.specs.Parts.{plan_copy, plan_copied, plan_tabled, plan_span, image_after_copy, image_after_table}
+use Rattle.steps.specs.Parts.{plan_copy, plan_copied, plan_tabled, plan_span, image_after_copy, image_after_table, plan_table_size}
 use Rattle.steps.specs.Promise.{own_verdict, MakesCopy, span_behind, WritesTable}
 use Rattle.steps.specs.Inner.Span.{span_region, IsOnDisc}
 use Rattle.steps.proofs.Laws.OwnParts.{own-copy, own-table}
@@ -154,7 +153,32 @@ module _ (ed : Edit) (place : IsPlaceEdit ed) (image : List ℕ) (b : AllBytes i
       let e = first-assoc (opening image words) (team_verdict a.team) (counted_verdict plan a image words room) in
       rw e at (behind (first (opening image words) (team_verdict a.team)) (λ v. place-plan words image plan (parted ed a image words room place b (sym e ∙ v))) f)
 
--- ---- by what the code did
+-- ---- the copy, by what was judged in words₁ and bytes₁, which hold what words and bytes do
+
+module _ (ed : Edit) (place : IsPlaceEdit ed) (team : ℕ) (image words words₁ bytes bytes₁ : List ℕ) (lent : words₁ ≡ words) (lent-bytes : bytes₁ ≡ bytes) (t : Totals) (d : Result Decision Refusal) (all : AllBytes image)
+    (g : IsForeseen (plan_behind (first (opening image (length words₁)) (team_verdict team)) (plan_of ed (disc_of image))) image (length words₁) (length bytes₁) (account t team) d) where
+  seen : IsForeseen (plan_behind (first (opening image (length words)) (team_verdict team)) (plan_of ed (disc_of image))) image (length words) (length bytes) (account t team) d
+  seen = rw (lent, lent-bytes) at g
+
+  copied : IsDone (verdict_of ed (account t team) image (length words) (length bytes)) (plan_of ed (disc_of image)) image seen.bytes d
+  copied = (whole ed place image all (length words) (length bytes) seen.bytes (account t team) seen.totals d seen.accounted).0
+
+  pub can-be-copied : CanCopy image d
+  can-be-copied = can-copy _ _ image (length bytes) seen.bytes d seen.accounted.decided
+
+  copied-is : (image' : List ℕ) → image' ≡ copied_by d image → image' ≡ image_after_copy ed (account t team) image (length words) (length bytes)
+  unfolding image_after_copy
+  copied-is image' i = i ∙ copied.copied
+
+  pub made-copy : (image' words' bytes' : List ℕ) → image' ≡ copied_by d image → words' ≡ zeros words → bytes' ≡ zeros bytes → (r : Verdict) → r ≡ carried_verdict d →
+      MakesCopy own_verdict ed team (loan image words bytes t) (loan image' words' bytes' t) r
+  made-copy image' words' bytes' i zw zb r q = record { answered = q ∙ copied.answer; image = copied-is image' i; totals = refl; words = zw; bytes = zb }
+
+  pub only-copied : (image' : List ℕ) → image' ≡ copied_by d image → DifferOnlyIn image image' (plan_copy (plan_of ed (disc_of image)))
+  only-copied image' i =
+      subst (λ (x : List ℕ). DifferOnlyIn image x (plan_copy (plan_of ed (disc_of image)))) (sym (copied-is image' i)) (own-copy ed (account t team) image (length words) (length bytes) place all)
+
+-- ---- the table, by what was decided on
 
 -- an edit x of the code, which is the edit ed, was decided on in words₁ and bytes₁, which hold what words and bytes do
 module _ (x : declared.Edit) (ed : Edit) (same : edit_of x ≡ ed) (place : IsPlaceEdit ed) (team : ℕ) (image words words₁ bytes bytes₁ b : List ℕ) (lent : words₁ ≡ words) (lent-bytes : bytes₁ ≡ bytes) (t t' : Totals)
@@ -169,25 +193,6 @@ module _ (x : declared.Edit) (ed : Edit) (same : edit_of x ≡ ed) (place : IsPl
   told : IsDone verdict (plan_of ed (disc_of image)) image b d × (t' ≡ totals_after ed (account t team) image (length words) (length bytes))
   told = whole ed place image all (length words) (length bytes) b (account t team) t' d f
 
-  -- ---- the copy
-
-  pub can-be-copied : CanCopy image d
-  can-be-copied = can-copy _ _ image (length bytes) b d f.decided
-
-  copied-is : (image' : List ℕ) → image' ≡ copied_by d image → image' ≡ image_after_copy ed (account t team) image (length words) (length bytes)
-  unfolding image_after_copy
-  copied-is image' i = i ∙ told.0.copied
-
-  pub made-copy : (image' words' bytes' : List ℕ) → image' ≡ copied_by d image → words' ≡ zeros words → bytes' ≡ zeros bytes → (r : Verdict) → r ≡ carried_verdict d →
-      MakesCopy own_verdict ed team (loan image words bytes t) (loan image' words' bytes' t) r
-  made-copy image' words' bytes' i zw zb r q = record { answered = q ∙ told.0.answer; image = copied-is image' i; totals = refl; words = zw; bytes = zb }
-
-  pub only-copied : (image' : List ℕ) → image' ≡ copied_by d image → DifferOnlyIn image image' (plan_copy (plan_of ed (disc_of image)))
-  only-copied image' i =
-      subst (λ (x : List ℕ). DifferOnlyIn image x (plan_copy (plan_of ed (disc_of image)))) (sym (copied-is image' i)) (own-copy ed (account t team) image (length words) (length bytes) place all)
-
-  -- ---- the table
-
   pub can-be-tabled : length b ≡ length bytes₁ → CanTable image (length b) d
   can-be-tabled e = rw (e, lent-bytes) (can-table _ _ image (length bytes) b d f.decided)
 
@@ -199,9 +204,9 @@ module _ (x : declared.Edit) (ed : Edit) (same : edit_of x ≡ ed) (place : IsPl
       (r : Result DiscRegion Refusal) → r ≡ span_behind verdict (plan_span (plan_of ed (disc_of image))) → WritesTable span_behind ed team (loan image words bytes t) (loan image' words' bytes' t') r
   wrote-table image' words' bytes' i zw zb r q = record { answered = q; image = tabled-is image' i; totals = told.1; words = zw; bytes = zb }
 
-  pub only-tabled : (image' : List ℕ) → image' ≡ tabled_by d b image → DifferOnlyInTable image image' (length (encode (plan_tree (plan_of ed (disc_of image)) (nodes_in image))))
+  pub only-tabled : (image' : List ℕ) → image' ≡ tabled_by d b image → DifferOnlyInTable image image' (plan_table_size (plan_of ed (disc_of image)))
   only-tabled image' i =
-      subst (λ (x : List ℕ). DifferOnlyInTable image x (length (encode (plan_tree (plan_of ed (disc_of image)) (nodes_in image))))) (sym (tabled-is image' i)) (own-table ed (account t team) image (length words) (length bytes) place all)
+      subst (λ (x : List ℕ). DifferOnlyInTable image x (plan_table_size (plan_of ed (disc_of image)))) (sym (tabled-is image' i)) (own-table ed (account t team) image (length words) (length bytes) place all)
 
   -- the span that is left, or the refusal, by the answer of the table
   pub span-told : (r : Result Span Refusal) (s : Span) → r ≡ lost_by d → r ≡ Ok s → Ok (span_region s) ≡ span_behind verdict (plan_span (plan_of ed (disc_of image)))

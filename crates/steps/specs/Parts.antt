@@ -1,6 +1,6 @@
 -- A move or a resize in three calls: the copy, the table, the zeros (RULES, In three calls). Each makes a part of what the single edit
 -- writes. Assumes nothing: these are definitions.
-use Rattle.std.specs.Prelude.{ℕ, Ok, List, nat_lt, if◌then◌else◌, is_err}
+use Rattle.std.specs.Prelude.{ℕ, Ok, List, length, nat_lt, if◌then◌else◌, is_err}
 use Rattle.refusal.specs.declared.Refusal.TheVariants.{SpanNotFree}
 use Rattle.refusal.specs.Refusal.{Verdict, refuse, first}
 use Rattle.header.specs.Verdicts.{fst_offset, fst_size}
@@ -34,6 +34,13 @@ plan_tabled (refused v) image = image
 plan_tabled nothing image = image
 plan_tabled (change k c) image = image_with_table (fst_offset image) (fst_size image) (encode c.nodes) image
 plan_tabled (filled k clip p) image = image
+
+-- how long that table is, 0 where none is written
+abbrev pub plan_table_size : Plan → ℕ
+plan_table_size (refused v) = 0
+plan_table_size nothing = 0
+plan_table_size (change k c) = length (encode c.nodes)
+plan_table_size (filled k clip p) = 0
 
 -- what is left to be zeroed: offset and size 0 where there is nothing
 abbrev pub plan_span : Plan → DiscRegion

@@ -1,12 +1,11 @@
 // The three calls.
 ghost use Rattle.std.specs.Prelude.{◌≡◌, length};
 ghost use Rattle.endian.specs.Bytes.{AllBytes};
-ghost use Rattle.tree.specs.Table.{encode};
-ghost use Rattle.opened.specs.Opening.{zeros, nodes_in, disc_of};
-ghost use Rattle.edit_rules.specs.Edits.{plan_of, plan_tree};
+ghost use Rattle.opened.specs.Opening.{zeros, disc_of};
+ghost use Rattle.edit_rules.specs.Edits.{plan_of};
 ghost use Rattle.edit_rules.specs.Promise.{loan};
 ghost use Rattle.edit.specs.Asked.{place_edit_of};
-ghost use Rattle.steps.specs.Parts.{plan_copy, zero_verdict, image_after_zeros};
+ghost use Rattle.steps.specs.Parts.{plan_copy, plan_table_size, zero_verdict, image_after_zeros};
 ghost use Rattle.steps.specs.Places.{DifferOnlyIn, DifferOnlyInTable};
 ghost use Rattle.steps.specs.Promise.{own_verdict, MakesCopy, span_behind, WritesTable};
 ghost use Rattle.steps.specs.Promise.{ZeroesWhatIsFree};
@@ -43,10 +42,8 @@ pub fn copy(
     of_bytes(image);
     let words = Lent::new(words);
     let bytes = Lent::new(bytes);
-    // The record is tested, and only its copy moves on.
-    let mut tried = *totals;
-    let edit = edit.whole();
-    let decided = edit::decide_image(image, words.memory, bytes.memory, &mut tried, team, edit);
+    let room = bytes.memory.len();
+    let decided = edit::judge_image(image, words.memory, room, totals, team, edit);
     edit::finish_copy(image, decided)
 }
 
@@ -65,8 +62,7 @@ pub fn write_table(
         let after = loan image.new words.new bytes.new totals.new in
         WritesTable span_behind (place_edit_of edit) team before after result }
     ensures own_part { let plan = plan_of (place_edit_of edit) (disc_of image.old) in
-        let nodes = plan_tree plan (nodes_in image.old) in
-        DifferOnlyInTable image.old image.new (length (encode nodes)) }
+        DifferOnlyInTable image.old image.new (plan_table_size plan) }
 {
     of_bytes(image);
     let words = Lent::new(words);

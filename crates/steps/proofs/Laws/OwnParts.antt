@@ -7,14 +7,14 @@ use Rattle.header.specs.Verdicts.{fst_offset, fst_size}
 use Rattle.tree.specs.Table.{encode}
 use Rattle.space.specs.declared.region.DiscRegion.{DiscRegion}
 use Rattle.space.specs.Used.{no_region}
-use Rattle.opened.specs.Opening.{nodes_in, disc_of}
+use Rattle.opened.specs.Opening.{disc_of}
 use Rattle.edit_rules.specs.Change.{Plan, refused, nothing, change, filled, zeroed_image}
-use Rattle.edit_rules.specs.Edits.{Edit, Account, plan_of, plan_tree, verdict_of}
+use Rattle.edit_rules.specs.Edits.{Edit, Account, plan_of, verdict_of}
 use Rattle.edit_rules.proofs.Laws.Accepted.{accepted}
 use Rattle.edit_rules.proofs.Laws.Puts.{Fits}
 use Rattle.ledger.proofs.Laws.Opened.{Opened, opened}
 use Rattle.edit.specs.Asked.{IsPlaceEdit}
-use Rattle.steps.specs.Parts.{plan_copy, plan_copied, plan_tabled, image_after_copy, image_after_table, zero_verdict, image_after_zeros}
+use Rattle.steps.specs.Parts.{plan_copy, plan_copied, plan_table_size, plan_tabled, image_after_copy, image_after_table, zero_verdict, image_after_zeros}
 use Rattle.steps.specs.Places.{DifferOnlyIn, DifferOnlyInTable}
 use Rattle.steps.proofs.Laws.Parts.{differ-only, outside_region}
 use Rattle.steps.proofs.Laws.WhollyFree.{reaches-end, span-accepted}
@@ -36,7 +36,7 @@ module _ (w : ℕ) (image : List ℕ) (o : Opened image) where
   copy-own (change k c) q = differ-only image _ _ (copied-only w c image o q)
   copy-own (filled k clip p) q = absurd q
 
-  table-own : (p : Plan) → Parted w image p → DifferOnlyInTable image (plan_tabled p image) (length (encode (plan_tree p (nodes_in image))))
+  table-own : (p : Plan) → Parted w image p → DifferOnlyInTable image (plan_tabled p image) (plan_table_size p)
   table-own (refused u) q = no-table-written image _
   table-own nothing q = no-table-written image _
   table-own (change k c) q =
@@ -67,11 +67,11 @@ module _ (ed : Edit) (a : Account) (image : List ℕ) (words bytes : ℕ) (h : I
       go (Err x) e = nothing-written image (plan_copy plan)
 
   -- LAW: the second call writes the table and its size alone
-  pub own-table : DifferOnlyInTable image (image_after_table ed a image words bytes) (length (encode (plan_tree (plan_of ed (disc_of image)) (nodes_in image))))
+  pub own-table : DifferOnlyInTable image (image_after_table ed a image words bytes) (plan_table_size (plan_of ed (disc_of image)))
   unfolding image_after_table
   own-table = go (verdict_of ed a image words bytes) refl
     where
-      go : (v : Verdict) → verdict_of ed a image words bytes ≡ v → DifferOnlyInTable image (cond (is_err v) image (plan_tabled plan image)) (length (encode (plan_tree plan (nodes_in image))))
+      go : (v : Verdict) → verdict_of ed a image words bytes ≡ v → DifferOnlyInTable image (cond (is_err v) image (plan_tabled plan image)) (plan_table_size plan)
       go (Ok _) e = table-own words image (o e) plan (parted ed a image words bytes h b e)
       go (Err x) e = no-table-written image _
 
