@@ -137,11 +137,11 @@ pub fn judge_image(
 {
     edit.passable();
     let disc = OpenDisc::of_image(image, words)?;
-    let team = totals::team_number(team)?;
+    let charged = totals::team_number(team)?;
     let judged = judge(&disc, room, edit);
     // The record is tested, and only its copy moves on.
     let mut tried = *totals;
-    account::account(&disc, judged, &mut tried, team)
+    account::account(&disc, judged, &mut tried, charged)
 }
 
 /// The whole edit: opens the image, makes every test, builds the new table in the working bytes, and only
