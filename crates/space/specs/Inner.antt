@@ -1,4 +1,5 @@
 -- Definitions that only inner contracts need.
+pub mod Before
 pub mod Counted
 pub mod Digits
 pub mod Found

@@ -93,8 +93,9 @@ impl<'a> UsedRegions<'a> {
         ensures { result ≡ max_region_size offset size (free_space_in self.now) }
     {
         let _ = &self.words;
-        let mut prev_end: u64 = 0;
-        for region in self.free_regions() {
+        let mut free = self.free_regions();
+        let mut prev_end = u64::from(free.pass_before(offset));
+        for region in free {
             if offset <= region.offset {
                 return growth::size_beside_free(prev_end, region, offset, size);
             }

@@ -42,7 +42,8 @@ fn case(plan: &Plan) -> Case {
     Case { image: images::image(plan), words, bytes }
 }
 
-/// The single call and two openings, and the three calls, each at the best of its four places in memory.
+/// The single call and two openings, of the image before it and after it, and the three calls, each at the best of its four places in
+/// memory.
 fn measure(plan: &Plan, call: &Call) -> [Duration; 2] {
     let mut case = case(plan);
     let (before, room) = (case.image.clone(), case.bytes.len());
@@ -55,24 +56,29 @@ fn measure(plan: &Plan, call: &Call) -> [Duration; 2] {
     let undo = Undo::between(&before, &after);
     drop((before, after));
     undo.apply(&mut case.image);
-    let all: [Duration; 12] = tenth(BUDGET, |side| {
+    let all: [Duration; 16] = tenth(BUDGET, |side| {
         let at = side % 4;
         let time = match side / 4 {
             0 => case.edit(call, 1, at, room).time,
             1 => return time_open(OPEN[at], &case.image, &mut case.words),
+            2 => {
+                case.edit(call, 1, at, room);
+                time_open(OPEN[at], &case.image, &mut case.words)
+            }
             _ => case.three(call, at).time,
         };
         undo.apply(&mut case.image);
         time
     });
-    let [single, opening, three] = [0, 4, 8].map(|at| *all[at..at + 4].iter().min().unwrap());
-    [single + 2 * opening, three]
+    let [single, before, after, three] =
+        [0, 4, 8, 12].map(|at| *all[at..at + 4].iter().min().unwrap());
+    [single + before + after, three]
 }
 
 pub fn run(misses: &mut Vec<String>) {
     println!();
     println!(
-        "µs of the single call and two openings, of the three calls, and in brackets the second as a part of the first:"
+        "µs of the single call and two openings (before and after it), of the three calls, and in brackets the second as a part of the first:"
     );
     let mut table = Table::of_kinds();
     for (entries, sorted) in KINDS {

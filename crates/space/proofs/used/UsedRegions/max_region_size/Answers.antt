@@ -6,7 +6,10 @@ use Rattle.space.proofs.Choice.{grown-more, grown-found}
 use Rattle.space.proofs.used.UsedRegions.max_region_size.Goals as goal
 
 pub loop-region-init : goal.loop-region-init
-loop-region-init c = rw (c.into_iter-region-iterator.ensures.into_iter_gives, c.free_regions-region-items.ensures) (tt, tt, free-end _ _, omega arith, refl)
+loop-region-init c =
+    let p = rw c.free_regions-free.ensures at c.pass_before.ensures in
+    let e = p.ends _ (free-end _ _) in
+    rw (c.into_iter-region-iterator.ensures.into_iter_gives, c.from-prev_end.ensures) (tt, tt, e.1, e.0, p.same _)
 
 pub returns-then-offset-region : goal.returns-then-offset-region
 returns-then-offset-region c =
