@@ -42,8 +42,8 @@ fn case(plan: &Plan) -> Case {
     Case { image: images::image(plan), words, bytes }
 }
 
-/// The single call and two openings, of the image before it and after it, and the three calls, each at the best of its four places in
-/// memory.
+/// The single call and two openings, of the image before it and behind it, as the second call and the third find it; and the three calls.
+/// Each at the best of its four places in memory.
 fn measure(plan: &Plan, call: &Call) -> [Duration; 2] {
     let mut case = case(plan);
     let (before, room) = (case.image.clone(), case.bytes.len());
@@ -70,15 +70,15 @@ fn measure(plan: &Plan, call: &Call) -> [Duration; 2] {
         undo.apply(&mut case.image);
         time
     });
-    let [single, before, after, three] =
-        [0, 4, 8, 12].map(|at| *all[at..at + 4].iter().min().unwrap());
-    [single + before + after, three]
+    let best = [0, 4, 8, 12].map(|at| *all[at..at + 4].iter().min().unwrap());
+    let [single, opening, opening_behind, three] = best;
+    [single + opening + opening_behind, three]
 }
 
 pub fn run(misses: &mut Vec<String>) {
     println!();
     println!(
-        "µs of the single call and two openings (before and after it), of the three calls, and in brackets the second as a part of the first:"
+        "µs of the single call and two openings, of the image before and behind it, of the three calls, and in brackets the second as a part of the first:"
     );
     let mut table = Table::of_kinds();
     for (entries, sorted) in KINDS {
