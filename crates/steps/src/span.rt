@@ -1,5 +1,5 @@
 // What is left to be zeroed, as a region of the disc.
-ghost use Rattle.std.specs.Prelude.{◌≡◌, ◌+◌, ◌<◌, ◌^◌};
+ghost use Rattle.std.specs.Prelude.{◌≡◌};
 ghost use Rattle.steps.specs.Inner.Span.{span_region, IsOnDisc};
 
 use edit::Span;
