@@ -212,8 +212,8 @@ int main(void)
     assert_eq!(told(&bytes), (24, "7 bytes at 7\n".into()));
 }
 
-/// Ends the process before or behind one of the guide's program's syncs and renames: CUT counts both of each. What is
-/// synced is kept in a folder beside the station's, where the program stands.
+/// Ends the process before or behind one of the guide's program's syncs and renames: CUT counts both of each.
+/// What is synced is kept in a folder beside the station's, where the program stands.
 const CUTTING: &str = r#"
 #include <stdio.h>
 #include <stdlib.h>
@@ -272,8 +272,8 @@ int __wrap_rename(const char *from, const char *to)
 }
 "#;
 
-// The guide's program syncs the copy and the note, renames it and syncs the folder; then it syncs the table and the
-// zeros, renames the note again and syncs the folder.
+// The guide's program syncs the copy and the note, renames it and syncs the folder; then it syncs the table and
+// the zeros, renames the note again and syncs the folder.
 const NOTE_WRITTEN: usize = 2;
 const NOTE_SYNCED: usize = 7;
 const TABLE_WRITTEN: usize = 8;
@@ -466,8 +466,8 @@ fn usual_edits(temp: &Temp) -> Vec<(Vec<u8>, PlaceEdit)> {
     edits.map(|(what, path, to)| (bytes.clone(), (what, number(path), to))).into()
 }
 
-/// The same on small images, with tables that get shorter and longer; and an empty file that is moved, also to the
-/// offset that it has.
+/// The same on small images, with tables that get shorter and longer; and an empty file that is moved, also to
+/// the offset that it has.
 fn small_edits() -> Vec<(Vec<u8>, PlaceEdit)> {
     let mut edits = Vec::new();
     for is_shared in [false, true] {
@@ -556,6 +556,25 @@ fn the_guides_station_is_cut_twice() {
 }
 
 #[test]
+fn the_guides_station_syncs_a_table_that_it_finds() {
+    let station = Station::new();
+    for (before, edit) in small_edits() {
+        station.begin(&before, None);
+        station.run(edit, Some(TABLE_WRITTEN));
+        let image = fs::read(&station.image).unwrap();
+        // It may be in memory only: no zero is written before it is on the drive.
+        for cut in 0.. {
+            let run = station.run(edit, Some(cut));
+            assert_eq!(run.status, 99, "{edit:?} {cut}");
+            assert!(fs::read(&station.image).unwrap() == image, "{edit:?} {cut}");
+            if fs::read(station.temp.at("synced/image")).unwrap() == image {
+                break;
+            }
+        }
+    }
+}
+
+#[test]
 fn the_guides_station_makes_the_copy_again() {
     let station = Station::new();
     // Something else wrote the new place, which is free, while the table was not written yet.
@@ -586,16 +605,20 @@ fn the_guides_station_takes_no_torn_file_for_none() {
             station.goes_on(edit, record, &wanted, "note.new");
         }
         for name in ["kept/note", "kept/record"] {
-            for len in [None, Some(0), Some(283)] {
+            // One that does not open, one that is not read, two that are torn.
+            for (is_link, len) in
+                [(true, None), (false, None), (false, Some(0)), (false, Some(283))]
+            {
                 station.begin(&before, record);
                 let file = station.temp.at(name);
                 let _ = fs::remove_file(&file);
                 match len {
+                    None if is_link => std::os::unix::fs::symlink(&file, &file).unwrap(),
                     None => fs::create_dir(&file).unwrap(),
                     Some(len) => fs::write(&file, vec![0; len]).unwrap(),
                 }
                 let run = station.run(edit, None);
-                assert_eq!(run.status, 74, "{name} {len:?}: {}", run.err);
+                assert_eq!(run.status, 74, "{name} {is_link} {len:?}: {}", run.err);
                 assert!(fs::read(&station.image).unwrap() == before);
                 assert_eq!(fs::read(&file).ok().map(|bytes| bytes.len()), len);
             }
