@@ -212,10 +212,12 @@ int main(void)
     assert_eq!(told(&bytes), (24, "7 bytes at 7\n".into()));
 }
 
-/// Ends the process before or behind one of the guide's program's writes to a disk: CUT counts both of each.
+/// Ends the process before or behind one of the guide's program's syncs and renames: CUT counts both of each.
+/// What is synced is kept in a folder beside the station's, where the program stands.
 const CUTTING: &str = r#"
 #include <stdio.h>
 #include <stdlib.h>
+#include <sys/stat.h>
 int __real_msync(void *start, size_t len, int how);
 int __real_fsync(int file);
 int __real_rename(const char *from, const char *to);
@@ -227,15 +229,41 @@ static int passed(int answer)
         _Exit(99);
     return answer;
 }
+static void write_out(const char *name, const void *start, size_t len)
+{
+    FILE *file = fopen(name, "wb");
+    if (file == NULL || fwrite(start, 1, len, file) != len || fclose(file) != 0)
+        _Exit(98);
+}
+static void keep(const char *name, const char *kept)
+{
+    static char bytes[4096];
+    FILE *file = fopen(name, "rb");
+    if (file != NULL) {
+        write_out(kept, bytes, fread(bytes, 1, sizeof bytes, file));
+        fclose(file);
+    } else
+        remove(kept);
+}
 int __wrap_msync(void *start, size_t len, int how)
 {
+    int answer;
     passed(0);
-    return passed(__real_msync(start, len, how));
+    answer = __real_msync(start, len, how);
+    write_out("../synced/image", start, len);
+    return passed(answer);
 }
 int __wrap_fsync(int file)
 {
+    struct stat told;
+    int answer;
     passed(0);
-    return passed(__real_fsync(file));
+    answer = __real_fsync(file);
+    if (fstat(file, &told) == 0 && S_ISDIR(told.st_mode)) {
+        keep("note", "../synced/note");
+        keep("record", "../synced/record");
+    }
+    return passed(answer);
 }
 int __wrap_rename(const char *from, const char *to)
 {
@@ -244,14 +272,18 @@ int __wrap_rename(const char *from, const char *to)
 }
 "#;
 
-// The guide's program syncs the copy, the note, the table and the zeros, and then renames the note.
-const COPY_SYNCED: usize = 1;
+// The guide's program syncs the copy and the note, renames it and syncs the folder; then it syncs the table and
+// the zeros, renames the note again and syncs the folder.
 const NOTE_WRITTEN: usize = 2;
-const NOTE_SYNCED: usize = 3;
-const TABLE_WRITTEN: usize = 4;
-const TABLE_SYNCED: usize = 5;
-const ZEROS_SYNCED: usize = 7;
-const DONE: usize = 9;
+const NOTE_SYNCED: usize = 7;
+const TABLE_WRITTEN: usize = 8;
+const TABLE_SYNCED: usize = 9;
+const DONE: usize = 15;
+
+/// What a cut loses of what was not synced: that of the image, that of the folder.
+const LOSSES: [(bool, bool); 4] = [(false, false), (true, false), (false, true), (true, true)];
+
+type PlaceEdit = (&'static str, u32, u32);
 
 /// The guide's program, with the files that it works on.
 struct Station {
@@ -275,28 +307,75 @@ impl Station {
         let wrap = "-Wl,--wrap=msync,--wrap=fsync,--wrap=rename";
         let sources = [source.to_str().unwrap(), cutting.to_str().unwrap(), wrap];
         let program = linked(&sources, &temp);
-        let [image, record, note] = ["disc.iso", "record", "note"].map(|name| temp.at(name));
+        fs::create_dir(temp.at("kept")).unwrap();
+        let [image, record, note] =
+            ["disc.iso", "kept/record", "kept/note"].map(|name| temp.at(name));
         Station { temp, program, image, record, note }
     }
 
     /// As before the edit.
     fn begin(&self, image: &[u8], record: Option<&Record>) {
-        fs::write(&self.image, image).unwrap();
-        let _ = (fs::remove_file(&self.note), fs::remove_file(&self.record));
-        if let Some(record) = record {
-            fs::write(&self.record, noted(record)).unwrap();
+        for folder in ["kept", "synced"].map(|name| self.temp.at(name)) {
+            let _ = fs::remove_dir_all(&folder);
+            fs::create_dir(&folder).unwrap();
+            if let Some(record) = record {
+                fs::write(folder.join("record"), noted(record)).unwrap();
+            }
         }
+        fs::write(&self.image, image).unwrap();
+        self.temp.write("synced/image", image);
     }
 
-    fn run(&self, edit: (&str, u32, u32), cut: Option<usize>) -> Run {
+    fn run(&self, edit: PlaceEdit, cut: Option<usize>) -> Run {
         let (what, file, to) = edit;
         let mut command = Command::new(&self.program);
-        command.args([&self.image, &self.record, &self.note]);
+        command.args([&self.image, &self.temp.at("kept")]);
         command.args([what, &file.to_string(), &to.to_string()]).env_remove("CUT");
         if let Some(cut) = cut {
             command.env("CUT", cut.to_string());
         }
         command.output().unwrap().into()
+    }
+
+    /// Takes back what was not synced; false if that is nothing.
+    fn lose(&self, (of_image, of_folder): (bool, bool)) -> bool {
+        let back = |is_lost: bool, name: &str, file: &Path| {
+            let (there, synced) = (fs::read(file).ok(), fs::read(self.temp.at(name)).ok());
+            if !is_lost || there == synced {
+                return false;
+            }
+            match synced {
+                Some(bytes) => fs::write(file, bytes).unwrap(),
+                None => fs::remove_file(file).unwrap(),
+            }
+            true
+        };
+        let image = back(of_image, "synced/image", &self.image);
+        let note = back(of_folder, "synced/note", &self.note);
+        let record = back(of_folder, "synced/record", &self.record);
+        image == of_image && (note || record) == of_folder
+    }
+
+    /// As the page says it: the note is there, or the record is the old one.
+    fn wants_another_run(&self, record: Option<&Record>) -> bool {
+        self.note.exists() || fs::read(&self.record).ok() == record.map(noted)
+    }
+
+    /// After a cut: the edit is done, or another run does it.
+    fn goes_on(
+        &self,
+        edit: PlaceEdit,
+        record: Option<&Record>,
+        wanted: &(Vec<u8>, Record),
+        what: &str,
+    ) {
+        if self.wants_another_run(record) {
+            let run = self.run(edit, None);
+            assert_eq!(run.status, 0, "{what}: {}", run.err);
+        }
+        assert!(fs::read(&self.image).unwrap() == wanted.0, "{what}");
+        assert_eq!(self.kept(), wanted.1.slots(), "{what}");
+        assert!(!self.note.exists(), "{what}");
     }
 
     /// The record, as it is kept.
@@ -324,11 +403,7 @@ fn noted(record: &Record) -> Vec<u8> {
 }
 
 /// The single call, with the record that the guide's program begins with where it has none.
-fn whole(
-    image: &[u8],
-    record: Option<Record>,
-    edit: (&str, u32, u32),
-) -> Result<(Vec<u8>, Record), u32> {
+fn whole(image: &[u8], record: Option<Record>, edit: PlaceEdit) -> Result<(Vec<u8>, Record), u32> {
     let (mut words, mut bytes) = (vec![0; MOST_WORDS], vec![0; MOST_TABLE]);
     let mut memory = Memory { words: &mut words, bytes: &mut bytes };
     let mut limits = [0; TEAMS];
@@ -349,8 +424,33 @@ fn of_teams() -> Record {
     record
 }
 
-/// Moves, growth elsewhere and in place, shrinks, empty files, the present size; and a table that gets shorter.
-fn place_edits(temp: &Temp) -> Vec<(Vec<u8>, (&'static str, u32, u32))> {
+/// Of a team above its limit, which only an edit that costs less than nothing brings below it.
+fn of_a_team_above_its_limit() -> Record {
+    let mut record = of_teams();
+    record.teams[0] = Team { limit: 90, share: 0, taken: 100, edits: u32::MAX - 1 };
+    record
+}
+
+/// The small master with a table that gets shorter, or, as names are shared, longer.
+fn with_another_table(is_shared: bool) -> Vec<u8> {
+    let mut image = filled_master();
+    if is_shared {
+        put(&mut image, 0x448, 3);
+        let entries = [0, 0x500, 0x100, 1, 0x1800, 0x80];
+        for (i, word) in entries.into_iter().enumerate() {
+            put(&mut image, 0x44C + 4 * i, word);
+        }
+        image[0x464..0x467].copy_from_slice(b"ba\0");
+        put(&mut image, 0x428, 0x27);
+    } else {
+        put(&mut image, 0x428, 0x30);
+        image[0x45A..0x46F].fill(b'x');
+    }
+    image
+}
+
+/// Moves, growth elsewhere and in place, shrinks, the present size, on a usual image.
+fn usual_edits(temp: &Temp) -> Vec<(Vec<u8>, PlaceEdit)> {
     let usual = usual_master(temp);
     let number = |path: &str| json("find", &usual, &[path]).at("number").number() as u32;
     let edits = [
@@ -363,69 +463,177 @@ fn place_edits(temp: &Temp) -> Vec<(Vec<u8>, (&'static str, u32, u32))> {
         ("resize", "text/en/msg.bin", 0x1234),
     ];
     let bytes = fs::read(&usual).unwrap();
-    let usual = edits.map(|(what, path, to)| (bytes.clone(), (what, number(path), to)));
-    let mut long = filled_master();
-    put(&mut long, 0x428, 0x30);
-    long[0x45A..0x46F].fill(b'x');
-    let small = [("move", 1, 1536), ("resize", 1, 128), ("resize", 1, 6912)];
-    usual.into_iter().chain(small.map(|edit| (long.clone(), edit))).collect()
+    edits.map(|(what, path, to)| (bytes.clone(), (what, number(path), to))).into()
+}
+
+/// The same on small images, with tables that get shorter and longer; and an empty file that is moved, also to
+/// the offset that it has.
+fn small_edits() -> Vec<(Vec<u8>, PlaceEdit)> {
+    let mut edits = Vec::new();
+    for is_shared in [false, true] {
+        let image = with_another_table(is_shared);
+        for edit in [("move", 1, 1536), ("resize", 1, 128), ("resize", 1, 256)] {
+            edits.push((image.clone(), edit));
+        }
+        let mut image = image;
+        put(&mut image, 0x454, 0);
+        for to in [0x500, 0x600, 0x440] {
+            edits.push((image.clone(), ("move", 1, to)));
+        }
+    }
+    edits.push((with_another_table(false), ("resize", 1, 6912)));
+    edits
 }
 
 #[test]
 fn the_guides_station_goes_on_after_every_cut() {
     let station = Station::new();
-    for (i, (before, edit)) in place_edits(&station.temp).into_iter().enumerate() {
-        // A record that is there, and none, by turns.
-        let record = (i % 2 == 0).then(of_teams);
-        let (after, counted) = whole(&before, record, edit).unwrap();
-        let mut synced = before.clone();
+    let usual = usual_edits(&station.temp).into_iter().enumerate();
+    // A record that is there, and none, by turns.
+    let usual = usual.map(|(i, edit)| (edit, (i % 2 == 0).then(of_teams)));
+    let small = small_edits().into_iter().enumerate();
+    let small = small.map(|(i, edit)| (edit, (i % 2 == 0).then(of_teams)));
+    let above = small_edits().into_iter().map(|edit| (edit, Some(of_a_team_above_its_limit())));
+    let mut is_above = 0;
+    for ((before, edit), record) in usual.chain(small).chain(above) {
+        let record = record.as_ref();
+        let Ok(wanted) = whole(&before, record.cloned(), edit) else { continue };
+        is_above += u32::from(record.is_some_and(|record| record.teams[0].limit == 90));
         for cut in 0..=DONE {
-            let cut_there = || {
-                station.begin(&before, record.as_ref());
+            for loss in LOSSES {
+                station.begin(&before, record);
                 let run = station.run(edit, Some(cut));
-                assert_eq!(run.status, 99, "{edit:?} {cut}: {}", run.err);
-            };
-            cut_there();
-            let image = fs::read(&station.image).unwrap();
-            if [COPY_SYNCED, TABLE_SYNCED, ZEROS_SYNCED].contains(&cut) {
-                synced = image.clone();
-            }
-            // What was not synced yet is there, or lost; the note may be torn too.
-            let mut left = vec![(image.clone(), cut >= TABLE_WRITTEN, None)];
-            if image != synced {
-                left.push((synced.clone(), cut > TABLE_SYNCED, None));
-            }
-            if cut == NOTE_WRITTEN {
-                left.extend([0, 100].map(|len| (image.clone(), false, Some(len))));
-            }
-            for (image, has_new_table, note) in left {
-                let what = format!("{edit:?} {cut} {has_new_table} {note:?}");
-                cut_there();
-                fs::write(&station.image, &image).unwrap();
-                if let Some(len) = note {
-                    let note = fs::OpenOptions::new().write(true).open(&station.note).unwrap();
-                    note.set_len(len).unwrap();
+                let what = format!("{edit:?} {cut} {loss:?}");
+                assert_eq!(run.status, 99, "{what}: {}", run.err);
+                if !station.lose(loss) {
+                    continue;
                 }
-                station.reads_as(if has_new_table { &after } else { &before }, &what);
-                if cut < DONE {
-                    let run = station.run(edit, None);
-                    assert_eq!(run.status, 0, "{what}: {}", run.err);
-                }
-                assert!(fs::read(&station.image).unwrap() == after, "{what}");
-                assert_eq!(station.kept(), counted.slots(), "{what}");
-                assert!(!station.note.exists(), "{what}");
+                let from = if loss.0 { TABLE_SYNCED } else { TABLE_WRITTEN };
+                station.reads_as(if cut >= from { &wanted.0 } else { &before }, &what);
+                station.goes_on(edit, record, &wanted, &what);
             }
         }
         // It has no other step.
-        station.begin(&before, record.as_ref());
+        station.begin(&before, record);
         assert_eq!(station.run(edit, Some(DONE + 1)).status, 0);
     }
+    // Two moves of an empty file, and that of a full one, and two shrinks cost less than nothing.
+    assert!(is_above >= 4, "{is_above}");
+}
+
+#[test]
+fn the_guides_station_is_cut_twice() {
+    let station = Station::new();
+    // A shrink, moves, an empty file moved to its own offset: with a table that gets shorter, and longer.
+    let edits = small_edits();
+    for (i, (before, edit)) in [1, 6, 9].map(|i| edits[i].clone()).into_iter().enumerate() {
+        let record = (i % 2 == 1).then(of_teams);
+        let record = record.as_ref();
+        let wanted = whole(&before, record.cloned(), edit).unwrap();
+        for (cut, loss) in (0..=DONE).flat_map(|cut| LOSSES.map(|loss| (cut, loss))) {
+            for second in 0.. {
+                let mut is_through = false;
+                for second_loss in [LOSSES[0], LOSSES[3]] {
+                    station.begin(&before, record);
+                    station.run(edit, Some(cut));
+                    if !station.lose(loss) || !station.wants_another_run(record) {
+                        is_through = true;
+                        break;
+                    }
+                    let run = station.run(edit, Some(second));
+                    let what = format!("{edit:?} {cut} {loss:?}, {second} {second_loss:?}");
+                    assert!([0, 99].contains(&run.status), "{what}: {}", run.err);
+                    is_through |= run.status == 0;
+                    station.lose(second_loss);
+                    station.goes_on(edit, record, &wanted, &what);
+                }
+                if is_through {
+                    break;
+                }
+            }
+        }
+    }
+}
+
+#[test]
+fn the_guides_station_syncs_a_table_that_it_finds() {
+    let station = Station::new();
+    for (before, edit) in small_edits() {
+        station.begin(&before, None);
+        station.run(edit, Some(TABLE_WRITTEN));
+        let image = fs::read(&station.image).unwrap();
+        // It may be in memory only: no zero is written before it is on the drive.
+        for cut in 0.. {
+            let run = station.run(edit, Some(cut));
+            assert_eq!(run.status, 99, "{edit:?} {cut}");
+            assert!(fs::read(&station.image).unwrap() == image, "{edit:?} {cut}");
+            if fs::read(station.temp.at("synced/image")).unwrap() == image {
+                break;
+            }
+        }
+    }
+}
+
+#[test]
+fn the_guides_station_makes_the_copy_again() {
+    let station = Station::new();
+    // Something else wrote the new place, which is free, while the table was not written yet.
+    let (before, edit) = small_edits().swap_remove(0);
+    let wanted = whole(&before, None, edit).unwrap();
+    for cut in 0..TABLE_WRITTEN {
+        station.begin(&before, None);
+        station.run(edit, Some(cut));
+        let mut image = fs::read(&station.image).unwrap();
+        image[1536..1792].fill(0xAA);
+        fs::write(&station.image, &image).unwrap();
+        station.goes_on(edit, None, &wanted, &format!("{cut}"));
+    }
+}
+
+#[test]
+fn the_guides_station_takes_no_torn_file_for_none() {
+    let station = Station::new();
+    let (before, edit) = small_edits().swap_remove(0);
+    for record in [None, Some(of_teams())] {
+        let record = record.as_ref();
+        let wanted = whole(&before, record.cloned(), edit).unwrap();
+        // What was written of the note before it had its name is of no account.
+        for len in [0, 100, 300] {
+            station.begin(&before, record);
+            station.run(edit, Some(NOTE_WRITTEN));
+            fs::write(station.temp.at("kept/note.new"), vec![0; len]).unwrap();
+            station.goes_on(edit, record, &wanted, "note.new");
+        }
+        for name in ["kept/note", "kept/record"] {
+            // One that does not open, one that is not read, two that are torn.
+            for (is_link, len) in
+                [(true, None), (false, None), (false, Some(0)), (false, Some(283))]
+            {
+                station.begin(&before, record);
+                let file = station.temp.at(name);
+                let _ = fs::remove_file(&file);
+                match len {
+                    None if is_link => std::os::unix::fs::symlink(&file, &file).unwrap(),
+                    None => fs::create_dir(&file).unwrap(),
+                    Some(len) => fs::write(&file, vec![0; len]).unwrap(),
+                }
+                let run = station.run(edit, None);
+                assert_eq!(run.status, 74, "{name} {is_link} {len:?}: {}", run.err);
+                assert!(fs::read(&station.image).unwrap() == before);
+                assert_eq!(fs::read(&file).ok().map(|bytes| bytes.len()), len);
+            }
+        }
+    }
+    // Nor a folder that is not there.
+    fs::remove_dir_all(station.temp.at("kept")).unwrap();
+    assert_eq!(station.run(edit, None).status, 74);
+    assert!(fs::read(&station.image).unwrap() == before);
 }
 
 #[test]
 fn the_guides_station_refuses_and_loses_a_note() {
     let station = Station::new();
-    let (before, edit) = place_edits(&station.temp).swap_remove(0);
+    let (before, edit) = usual_edits(&station.temp).swap_remove(0);
     let (after, _) = whole(&before, None, edit).unwrap();
     // A refusal leaves all as it was.
     let file = edit.1;
@@ -455,14 +663,24 @@ fn the_guides_station_refuses_and_loses_a_note() {
         assert_eq!(station.run(edit, None).status, 0);
         assert!(fs::read(&station.image).unwrap() == after);
     }
-    // Without the note the old place keeps its bytes, and nothing else is lost.
-    station.begin(&before, None);
-    station.run(edit, Some(TABLE_SYNCED));
-    let image = fs::read(&station.image).unwrap();
-    fs::remove_file(&station.note).unwrap();
-    assert_eq!(station.run(edit, None).status, 20);
-    assert!(fs::read(&station.image).unwrap() == image && image != after);
-    station.reads_as(&after, "no note");
+    // Without the note the old place keeps its bytes, and nothing else is lost. The record is made anew.
+    for (before, edit) in [(before, edit)].into_iter().chain(small_edits()) {
+        let (after, _) = whole(&before, None, edit).unwrap();
+        station.begin(&before, Some(&of_teams()));
+        station.run(edit, Some(TABLE_SYNCED));
+        let image = fs::read(&station.image).unwrap();
+        fs::remove_file(&station.note).unwrap();
+        let refused = whole(&image, Some(of_teams()), edit).err().unwrap_or(0);
+        assert_eq!(station.run(edit, None).status, refused as i32);
+        assert!(fs::read(&station.image).unwrap() == image);
+        station.reads_as(&after, "no note");
+        fs::remove_file(&station.record).unwrap();
+        let file_there = ("resize", edit.1, if edit.0 == "resize" { edit.2 } else { 0 });
+        let (image, counted) = whole(&image, None, file_there).unwrap();
+        assert_eq!(station.run(file_there, None).status, 0);
+        assert!(fs::read(&station.image).unwrap() == image);
+        assert_eq!(station.kept(), counted.slots());
+    }
 }
 
 #[test]
