@@ -21,7 +21,7 @@ use Rattle.edit.specs.declared.decision.Writing.{Writing}
 use Rattle.edit.specs.declared.decision.Decision.TheVariants as decision
 use Rattle.edit.specs.Inner.Decision.{InImage, IsDecided, Judges, placing_change, change_with, nothing_besides, judged_size}
 use Rattle.edit.proofs.Puts.{span-start}
-use Rattle.edit.proofs.Decisions.{tests-passed, tests-refused, refused-decided, write-decided, same_tests, length-encode-set_place}
+use Rattle.edit.proofs.Decisions.{tests-passed, tests-refused, refused-decided, write-decided, same_tests}
 use Rattle.edit.proofs.Discs.{nodes_are, free_is, new_table}
 use Rattle.edit.specs.declared.file.File.{File}
 use Rattle.edit.specs.Inner.Files.{IsFile, IsFileOf, relocation_of}

@@ -6,7 +6,6 @@ use Rattle.space.specs.Used.{end_of}
 use Rattle.space.specs.MaxRegionSize.{max_size_from}
 use Rattle.space.specs.Inner.Words.{is_in_sequence}
 use Rattle.space.specs.Inner.Before.{IsPassedBefore}
-use Rattle.space.specs.Laws.FreeLaws.{AllEndBy}
 use Rattle.space.proofs.Choice.{grown-more}
 use Rattle.space.proofs.Left.{left, IsPassed, passed-order, passed-ends, passed-skip, passed-one}
 

@@ -1,5 +1,5 @@
 -- What the promises of the three calls come to where a call is refused: image and record are as they were. Assumes nothing.
-use Rattle.std.specs.Prelude.{Ok, Err, ℕ, ◌≡◌, List, length}
+use Rattle.std.specs.Prelude.{Err, ℕ, ◌≡◌, List, length}
 use Rattle.std.proofs.Common.{refl, ◌∙◌}
 use Rattle.refusal.specs.declared.Refusal.{Refusal}
 use Rattle.refusal.specs.Refusal.{Verdict}

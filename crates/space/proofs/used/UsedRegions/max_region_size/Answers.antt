@@ -1,5 +1,5 @@
 -- `UsedRegions::max_region_size` meets its contract: the search over the free regions that are left gives what the search over all gives.
-use Rattle.std.proofs.Common.{refl, ◌∙◌, arith}
+use Rattle.std.proofs.Common.{◌∙◌}
 use Rattle.space.specs.Laws.FreeLaws.{free-end}
 use Rattle.space.specs.MaxRegionSize.{max_size_from}
 use Rattle.space.proofs.Choice.{grown-more, grown-found}
