@@ -77,7 +77,9 @@ pub fn draft(
 {
     let decision = judged?;
     if let Decision::Write {
-        number, writing, ..
+        number,
+        writing,
+        ..
     } = decision
     {
         let place = writing.place;
