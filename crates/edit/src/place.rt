@@ -64,8 +64,8 @@ pub fn write_table(table: &[u8], bytes: &mut [u8])
     table_writing::write_table(table, bytes);
 }
 
-/// Drafts in the working bytes the table of what was judged: the tree anew, with the file at its new place. What
-/// was judged is handed back.
+/// Drafts in the working bytes the table of what was judged: the tree anew, with the file at its new place.
+/// What was judged is handed back.
 pub fn draft(
     disc: &OpenDisc<'_>,
     bytes: &mut [u8],

@@ -75,8 +75,8 @@ fn grow_elsewhere(
     relocate(disc, room, file, new)
 }
 
-// A file gets another size: nothing is done where it has that size; it keeps its place if it can, else it goes
-// where there is room, or 21; then the table's tests, where `room` working bytes are lent.
+// A file gets another size: nothing is done where it has that size; it keeps its place if it can, else it
+// goes where there is room, or 21; then the table's tests, where `room` working bytes are lent.
 fn judge(disc: &OpenDisc<'_>, room: usize, file: File, new_size: u32) -> Result<Decision, Refusal>
     requires { IsFileOf disc.now file }
     ensures { let d = disc.now.disc in

@@ -56,10 +56,10 @@ impl<'a> FreeRegions<'a> {
         }
     }
 
-    // Passes the free regions that start before `offset`, and gives the end of the last of them, 0 if there is
-    // none. What lies behind the last used region is left.
-    // Kept: beside `next` (S): it asks of each used region whether a free one lies before it, which no
-    // processor foresees, and took three times as long.
+    // Passes the free regions that start before `offset`, and gives the end of the last of them, 0 if there
+    // is none. What lies behind the last used region is left.
+    // Kept: beside `next` (S), which asks of each used region whether a free one lies before it: no processor
+    // foresees that.
     pub(crate) fn pass_before(&mut self, offset: u32) -> u32
         ensures { IsPassedBefore offset self.old self.new result }
     {
