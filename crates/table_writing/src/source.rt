@@ -1,7 +1,11 @@
 // A table that can be written anew.
-ghost use Rattle.std.specs.Prelude.{◌≡◌, ◌+◌, ◌*◌, ◌<◌};
+ghost use Rattle.std.specs.Prelude.{◌≡◌, ◌+◌, ◌*◌, ◌<◌, ◌==◌, length};
+ghost use Rattle.std.specs.Option.{IfSome};
+ghost use Rattle.std.specs.List.{count_by};
+ghost use mathlib.Core.List.{tail};
 ghost use Rattle.tree.specs.Table as table_of;
 ghost use Rattle.tree.specs.Table.{name_offset, offset_or_parent, size_or_next, name_at};
+ghost use Rattle.tree.specs.Table.{nodes_of, texts_of};
 ghost use Rattle.table_writing.specs.Inner.Kind.{kind_number};
 ghost use Rattle.table_writing.specs.Inner.Measure.{measure_of};
 ghost use Rattle.table_writing.specs.Inner.Valid.{IsValid};
@@ -11,6 +15,13 @@ use refusal::Refusal;
 use std::marker::Model;
 use table::fields;
 use tree::TEXTS_LIMIT;
+
+// How many of the bytes are zero.
+fn zero_bytes(bytes: &[u8]) -> usize
+    ensures { result ≡ count_by (λ byte. (byte == 0)) bytes.now }
+{
+    bytes.iter().filter(|byte| **byte == 0).count()
+}
 
 /// A table that can be written anew: its directories nest, and its names end within it. Contracts see its
 /// bytes.
@@ -109,11 +120,45 @@ impl<'a> Source<'a> {
         &self.bytes[from..from + len]
     }
 
+    // The size of the texts where each follows the last in the order of the entries, to the table's end, with
+    // one zero byte; else none. So each stretch from a name to the next ends with a zero byte, and there are
+    // no more zero bytes than names.
+    fn packed_texts(&self) -> Option<usize>
+        ensures { IfSome result (λ size. size ≡ length (texts_of (tail (nodes_of self.now)))) }
+    {
+        let bytes = self.bytes();
+        let count = self.count();
+        if count < 2 || bytes[bytes.len() - 1] != 0 {
+            return None;
+        }
+        let first = 12 * count + fields::name_offset(bytes, 1) as usize;
+        let mut last = first;
+        for k in 2..count {
+            let next = 12 * count + fields::name_offset(bytes, k) as usize;
+            if next <= last || bytes[next - 1] != 0 {
+                return None;
+            }
+            last = next;
+        }
+        let texts = &bytes[first..];
+        if zero_bytes(texts) != count - 1 {
+            return None;
+        }
+        Some(texts.len())
+    }
+
     /// The size in bytes of the table written anew; 9 if its texts pass the limit.
     pub fn measure(&self) -> Result<usize, Refusal>
         ensures { result ≡ measure_of self.now }
     {
         let count = self.count();
+        // Nearly every table is packed, and then no name's end is searched for.
+        if let Some(texts) = self.packed_texts() {
+            if TEXTS_LIMIT < texts {
+                return Err(Refusal::LimitOrMemory);
+            }
+            return Ok(12 * count + texts);
+        }
         let mut size = 12;
         // Kept: a range of numbers: an entry is known by its number, and there is no slice of entries.
         for k in 1..count {
