@@ -1,10 +1,9 @@
--- The size of texts that follow one another, over the turns of the loop that looks at where they start: each
--- stretch from a name to the next ends with a zero byte, so where there are no more of those, it is that name.
+-- The size of texts that follow one another, over the turns of the loop that looks at where they start: each stretch
+-- from a name to the next ends with a zero byte, and is that name where it holds no more of them. Assumes nothing.
 use Rattle.std.specs.Prelude.{ℕ, zero, suc, ◌+◌, ◌-◌, ◌*◌, ◌≤◌, ◌<◌, ◌≡◌, refl, false, cond, List, [], ◌∷◌, length, take, drop, get_or, ◌==◌}
-use Rattle.std.proofs.Common.{ap, sym, ◌∙◌, arith, get_or-drop, drop-drop, take_all, length-drop}
-use Rattle.std.proofs.lemmas.List.{drop_all}
+use Rattle.std.proofs.Common.{ap, ◌∙◌, arith, get_or-drop, drop-drop, length-drop}
 use Rattle.std.proofs.lemmas.Bool.Decides.{nat_tests}
-use Rattle.std.proofs.lemmas.List.Sums.{sum_by-cons}
+use Rattle.std.proofs.lemmas.List.Sums.{sum_by-cons, sum_by-take-drop}
 use Rattle.std.specs.List.{count_by}
 use mathlib.Core.List.{tail}
 use Rattle.tree.specs.Table.{empty_root, name_of, name_offset, first_text, name_at, nodes_of, texts_of}
@@ -40,7 +39,7 @@ stretch (suc b ∷ s) (suc m) h z =
     let i = stretch s m (omega arith) z in
     (omega (arith, zeros-more b s, i.0), λ e. omega (arith, i.1 (omega (arith, zeros-more b s, e))))
 
--- the names before that of entry k - 1, which starts at last, hold so many zero bytes or more
+-- from the first name to that of entry k - 1 are a zero byte for each name or more, and where no more, their texts
 pub record PackedTo (tab : List ℕ) (n first last k : ℕ) : Type 0 where
   pub valid : IsValid tab n
   pub low : 1 < k
@@ -89,15 +88,19 @@ module _ (tab : List ℕ) (n first last k : ℕ) (u : PackedTo tab n first last 
       let i : k + 1 - 2 ≡ k - 1 = omega arith in
       record { valid = u.valid; low = omega (arith, u.low); high = omega arith; starts = rw j e; behind = omega (arith, u.behind); least = rw i (omega (arith, u.low, fewer next later inside ended, u.least)); exact = λ z. rw j (sum next later inside ended (rw i at z)) }
 
-  pub packed-last : n ≤ k → get_or tab (length tab - 1) 0 ≡ 0 → first ≤ length tab → (texts : List ℕ) → texts ≡ take (length tab - first) (drop first tab) → count_by (λ byte. (byte == 0)) texts ≡ n - 1 → length texts ≡ length (texts_of (tail (nodes_of tab)))
-  packed-last whole ended low texts r few =
+  pub packed-last : n ≤ k → (between last-name : List ℕ) → between ≡ take (last - first) (drop first tab) → count_by (λ byte. (byte == 0)) between ≡ n - 2 → last-name ≡ name_at tab n (name_offset tab (n - 1)) → last - first + length last-name + 1 ≡ length (texts_of (tail (nodes_of tab)))
+  packed-last whole between last-name r few read =
       let k-is : k ≡ n = omega (arith, u.high) in
       let entries : length (nodes_of tab) ≡ n = length-nodes_of tab ∙ count-is tab n u.valid in
-      let inside : last < length tab = omega (arith, u.starts, u.low, u.valid.named (k - 1) (omega (arith, u.low)) (omega (arith, u.low, u.high))) in
-      let l : length (drop first tab) ≡ length tab - first = length-drop first tab in
-      let t : texts ≡ drop first tab = r ∙ take_all (length tab - first) (drop first tab) (omega (arith, l)) in
-      let none : zeros (drop (length tab) tab) ≡ 0 = ap zeros (drop_all (length tab) tab (omega arith)) in
-      let found : zeros (drop first tab) ≡ n - 1 = rw t at few in
-      let all : text_start (nodes_of tab) k + first ≡ length tab = sum (length tab) inside (omega arith) ended (omega (arith, found, none, k-is)) in
-      let e : text_start (nodes_of tab) n ≡ length (texts_of (tail (nodes_of tab))) = rw entries at (start-end (nodes_of tab)) in
-      rw t (omega (arith, l, rw k-is at all, e))
+      let e : first + (last - first) ≡ last = omega (arith, u.behind) in
+      let behind : drop (last - first) (drop first tab) ≡ drop last tab = rw e at (drop-drop (last - first) first tab) in
+      let found : zeros (take (last - first) (drop first tab)) ≡ n - 2 = rw r at few in
+      let parts : zeros (take (last - first) (drop first tab)) + zeros (drop last tab) ≡ zeros (drop first tab) = rw behind at (sum_by-take-drop (λ byte. cond (byte == 0) 1 0) (drop first tab) (last - first)) in
+      let start : text_start (nodes_of tab) (n - 1) + first ≡ last = rw k-is at (u.exact (omega (arith, parts, found, k-is))) in
+      let j : n - 1 + 1 ≡ n = omega (arith, u.low) in
+      let size : length last-name ≡ length (name_of (get_or (nodes_of tab) (n - 1) empty_root)) =
+      rw (node_at_lem tab n (n - 1) u.valid (omega (arith, u.low)) (omega (arith, u.low)), name_of-node_at tab n (n - 1)) (ap length read) in
+      let s : text_start (nodes_of tab) n ≡ text_start (nodes_of tab) (n - 1) + (length (name_of (get_or (nodes_of tab) (n - 1) empty_root)) + 1) =
+      rw j at (start-next (nodes_of tab) (n - 1) (omega (arith, u.low)) (omega (arith, entries, u.low))) in
+      let all : text_start (nodes_of tab) n ≡ length (texts_of (tail (nodes_of tab))) = rw entries at (start-end (nodes_of tab)) in
+      omega (arith, s, start, size, all, u.behind)

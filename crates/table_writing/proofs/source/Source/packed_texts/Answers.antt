@@ -1,5 +1,5 @@
 -- `Source::packed_texts` meets its contract. The invariant: the names before entry k - 1 are passed.
-use Rattle.std.proofs.Common.{refl, arith, rules}
+use Rattle.std.proofs.Common.{refl, arith}
 use Rattle.table_writing.proofs.Packed.{packed-first, packed-next, packed-last}
 use Rattle.table_writing.proofs.source.Source.packed_texts.Goals as goal
 
@@ -13,4 +13,5 @@ loop-k-preserved c = packed-next _ _ _ _ _ c.loop-k.invariant _ c.loop-k-test.tr
 pub returns : goal.returns
 returns c =
     let e = c.bytes-bytes.ensures.bytes in
-    rw e (rw e at (packed-last _ _ _ _ _ c.loop-k.invariant c.loop-k-test.false c.if-bytes-ne0.false (omega arith) _ refl (omega arith)))
+    let name = rw (← c.count-count.ensures.value) at c.name.ensures in
+    rw e at (packed-last _ _ _ _ _ c.loop-k.invariant c.loop-k-test.false _ _ refl (omega arith) (rw (← e) at name))
