@@ -142,8 +142,8 @@ impl<'a> Source<'a> {
         &self.bytes[from..from + len]
     }
 
-    // The size of the texts where they stand as they would be written, in the order of the entries, each behind
-    // the last one's zero byte; else none.
+    // The size of the texts where they stand as they would be written: in the order of the entries, each
+    // behind the zero byte of the one before it; else none.
     // A zero byte stands before each name but the first. So where no more of them are between the first name
     // and the last, each ends the name before it, and only the last name's end is searched for.
     fn packed_texts(&self) -> Option<usize>
