@@ -5,6 +5,7 @@ pub mod Inserted
 pub mod Limits
 pub mod Measuring
 pub mod Nesting
+pub mod Packed
 pub mod Passes
 pub mod Patches
 pub mod Puts

@@ -5,7 +5,8 @@ use mathlib.Core.List.{List, tail}
 use native.Mathlib.Omega.{arith}
 use borrow.Author.Tests.{lt-ltb, le-ltb}
 use lib.ListN.{length, get_or}
-use Rattle.tree.specs.Table.{name_of, empty_root, count, name_offset, name_at, nodes_of, texts_of}
+use Rattle.tree.specs.Table.{name_of, empty_root, count, name_offset, name_at, nodes_of, texts_of, encode}
+use Rattle.tree.proofs.Laws.WrittenEntries.{length-encode}
 use Rattle.tree.proofs.Laws.Accepted.{length-nodes_of, name_of-node_at}
 use Rattle.tree.proofs.Laws.Size.{size_to, size-root, size-next, size-whole}
 use Rattle.tree.proofs.Laws.Writing.{start-inside, start-end}
@@ -57,3 +58,15 @@ module _ (tab : List ℕ) (n size k : ℕ) (u : Upto tab n size k) where
       let z : k ≡ length (nodes_of tab) = omega (arith, u.high, entries) in
       let s : size ≡ size_to (nodes_of tab) (length (nodes_of tab)) = rw z at u.sized in
       rw (le-ltb 1048576 (length (texts_of (tail (nodes_of tab)))) (omega (arith, u.short, start-end (nodes_of tab))), s, size-whole (nodes_of tab))
+
+-- where the texts' size is known at once
+module _ (tab : List ℕ) (texts : ℕ) (e : texts ≡ length (texts_of (tail (nodes_of tab)))) where
+  pub texts-past : 1048576 < texts → Err LimitOrMemory ≡ measure_of tab
+  unfolding measure_of
+  texts-past h = rw (lt-ltb 1048576 (length (texts_of (tail (nodes_of tab)))) (omega (arith, e)))
+
+  pub texts-whole : (n : ℕ) → n ≡ count tab → texts ≤ 1048576 → Ok (12 * n + texts) ≡ measure_of tab
+  unfolding measure_of
+  texts-whole n c h =
+      let s : 12 * n + texts ≡ length (encode (nodes_of tab)) = omega (arith, e, length-encode (nodes_of tab), length-nodes_of tab) in
+      rw (le-ltb 1048576 (length (texts_of (tail (nodes_of tab)))) (omega (arith, e)), s)

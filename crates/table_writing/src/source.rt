@@ -1,7 +1,10 @@
 // A table that can be written anew.
-ghost use Rattle.std.specs.Prelude.{◌≡◌, ◌+◌, ◌*◌, ◌<◌};
+ghost use Rattle.std.specs.Prelude.{◌≡◌, ◌+◌, ◌*◌, ◌≤◌, ◌<◌, ◌==◌, length};
+ghost use Rattle.std.specs.Option.{IfSome};
+ghost use Rattle.std.specs.List.{count_by};
+ghost use mathlib.Core.List.{tail};
 ghost use Rattle.tree.specs.Table as table_of;
-ghost use Rattle.tree.specs.Table.{name_offset, offset_or_parent, size_or_next, name_at};
+ghost use Rattle.tree.specs.Table.{name_offset, offset_or_parent, size_or_next, name_at, nodes_of, texts_of};
 ghost use Rattle.table_writing.specs.Inner.Kind.{kind_number};
 ghost use Rattle.table_writing.specs.Inner.Measure.{measure_of};
 ghost use Rattle.table_writing.specs.Inner.Valid.{IsValid};
@@ -11,6 +14,36 @@ use refusal::Refusal;
 use std::marker::Model;
 use table::fields;
 use tree::TEXTS_LIMIT;
+
+// How many bytes are looked at together: as many as a byte can count.
+const PART: usize = 255;
+
+// How many of a part's bytes are zero.
+fn zeros_in(part: &[u8]) -> u8
+    requires { length part.now ≤ 255 }
+    ensures { result ≡ count_by (λ byte. (byte == 0)) part.now }
+{
+    let mut zeros = 0;
+    for byte in part {
+        if *byte == 0 {
+            zeros += 1;
+        }
+    }
+    zeros
+}
+
+// How many of the bytes are zero.
+// Kept: a part's are counted in a byte (S), so that the compiler compares 16 at once: `filter` and `count`
+// over all took 11 times as long.
+fn zero_bytes(bytes: &[u8]) -> usize
+    ensures { result ≡ count_by (λ byte. (byte == 0)) bytes.now }
+{
+    let mut zeros = 0;
+    for part in bytes.chunks(PART) {
+        zeros += usize::from(zeros_in(part));
+    }
+    zeros
+}
 
 /// A table that can be written anew: its directories nest, and its names end within it. Contracts see its
 /// bytes.
@@ -109,11 +142,46 @@ impl<'a> Source<'a> {
         &self.bytes[from..from + len]
     }
 
+    // The size of the texts where they stand as they would be written: in the order of the entries, each
+    // behind the zero byte of the one before it; else none.
+    // A zero byte stands before each name but the first. So where no more of them are between the first name
+    // and the last, each ends the name before it, and only the last name's end is searched for.
+    fn packed_texts(&self) -> Option<usize>
+        ensures { IfSome result (λ size. size ≡ length (texts_of (tail (nodes_of self.now)))) }
+    {
+        let bytes = self.bytes();
+        let count = self.count();
+        if count < 2 {
+            return None;
+        }
+        let first = 12 * count + fields::name_offset(bytes, 1) as usize;
+        let mut last = first;
+        // Kept: a range of numbers, as in `measure`.
+        for k in 2..count {
+            let next = 12 * count + fields::name_offset(bytes, k) as usize;
+            if next <= last || bytes[next - 1] != 0 {
+                return None;
+            }
+            last = next;
+        }
+        if zero_bytes(&bytes[first..last]) != count - 2 {
+            return None;
+        }
+        Some(last - first + self.name(count - 1).len() + 1)
+    }
+
     /// The size in bytes of the table written anew; 9 if its texts pass the limit.
     pub fn measure(&self) -> Result<usize, Refusal>
         ensures { result ≡ measure_of self.now }
     {
         let count = self.count();
+        // Nearly every table is packed. To search for each name's end took a quarter of an edit's time.
+        if let Some(texts) = self.packed_texts() {
+            if TEXTS_LIMIT < texts {
+                return Err(Refusal::LimitOrMemory);
+            }
+            return Ok(12 * count + texts);
+        }
         let mut size = 12;
         // Kept: a range of numbers: an entry is known by its number, and there is no slice of entries.
         for k in 1..count {

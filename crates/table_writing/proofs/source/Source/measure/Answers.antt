@@ -1,7 +1,13 @@
 -- `Source::measure` meets its contract. The invariant: the entries before k are measured.
 use native.Mathlib.Omega.{arith}
-use Rattle.table_writing.proofs.Measuring.{measure-root, measure-next, measure-past, measure-whole, name-length}
+use Rattle.table_writing.proofs.Measuring.{measure-root, measure-next, measure-past, measure-whole, texts-past, texts-whole, name-length}
 use Rattle.table_writing.proofs.source.Source.measure.Goals as goal
+
+pub returns-then-texts-gt-TEXTS_LIMIT : goal.returns-then-texts-gt-TEXTS_LIMIT
+returns-then-texts-gt-TEXTS_LIMIT c = texts-past _ _ c.in-Some.ensures c.if-texts-gt-TEXTS_LIMIT.true
+
+pub returns-in-Some : goal.returns-in-Some
+returns-in-Some c = texts-whole _ _ c.in-Some.ensures _ c.count-count.ensures.value c.if-texts-gt-TEXTS_LIMIT.false
 
 pub loop-k-init : goal.loop-k-init
 loop-k-init c =
