@@ -17,6 +17,7 @@ pub mod Judged
 pub mod InsertionLaws
 pub mod Lists
 pub mod Outcomes
+pub mod Parts
 pub mod Places
 pub mod Plans
 pub mod Puts

@@ -45,8 +45,8 @@ pub(crate) fn copy_kept(image: &mut [u8], source: usize, to: usize, n: usize)
     endian::copy_within(image, source, to, n);
 }
 
-/// Zeros over bytes that no file has any more. No byte may be asked for at a place past the image.
-pub fn zero_lost(image: &mut [u8], at: usize, n: usize)
+// Zeros over bytes that no file has any more.
+fn zero_lost(image: &mut [u8], at: usize, n: usize)
     requires { ZeroFits (length image.old) at n }
     ensures { image.new ≡ put image.old at (replicate n 0) }
 {

@@ -8,11 +8,12 @@ ghost use Rattle.edit_rules.specs.Edits.{account, plan_behind, plan_of, number_b
 ghost use Rattle.edit_rules.specs.Promise.{loan, only_verdict, IsEdited};
 ghost use Rattle.ledger.specs.Runs.{IsPassable};
 ghost use Rattle.edit.specs.Inner.Accounting.{account_with, IsAccountedFor, IsForeseen};
+ghost use Rattle.edit.specs.Inner.Accounting.{IsCopied, IsTabled};
 ghost use Rattle.edit.specs.Inner.Decision.{Judges};
 ghost use Rattle.edit.specs.Asked.{edit_of, place_edit_of, IsPlaceEdit};
 ghost use Rattle.edit.specs.Inner.Decides.{IsEditDecided, clip_of};
 
-use crate::decision::Decision;
+use crate::decision::{Decision, Span};
 use crate::new_entry::NewEntry;
 use crate::place_edit::PlaceEdit;
 use crate::{account, decision, directories, filling, insertion, moving, resizing};
@@ -87,7 +88,7 @@ pub fn decide(disc: &OpenDisc<'_>, bytes: &mut [u8], edit: Edit<'_>) -> Result<D
 /// The team is the first test after opening, the record's tests are the last.
 // Kept: `image`, `words`, `bytes`, `totals` one by one, here and below (N): each is written or zeroed apart
 // from the others, and a struct of four `&mut` would have each contract name the loan of each field.
-pub fn decide_image(
+fn decide_image(
     image: &[u8],
     words: &mut [u32],
     bytes: &mut [u8],
@@ -142,6 +143,49 @@ pub fn judge_image(
     // The record is tested, and only its copy moves on.
     let mut tried = *totals;
     account::account(&disc, judged, &mut tried, charged)
+}
+
+/// The copy of a move or a resize, and nothing else: refused as `judge_image` is, with the image as it was.
+pub fn copy_part(
+    image: &mut [u8],
+    words: &mut [u32],
+    room: usize,
+    totals: &Totals,
+    team: u32,
+    edit: PlaceEdit,
+) -> Verdict
+    ensures copied { let opened = opening image.old (length words.old) in
+        let admitted = first opened (team_verdict team) in
+        let plan = plan_behind admitted (plan_of (place_edit_of edit) (disc_of image.old)) in
+        let account = account totals.now team in
+        IsCopied plan image.old image.new (length words.old) room account result }
+    ensures place_edit { IsPlaceEdit (place_edit_of edit) }
+{
+    let decided = judge_image(image, words, room, totals, team, edit);
+    decision::finish_copy(image, decided)
+}
+
+/// The table of a move or a resize, and nothing else, with the record moved on: refused as `decide_image` is,
+/// with image and record as they were. Gives what is left to be zeroed.
+pub fn table_part(
+    image: &mut [u8],
+    words: &mut [u32],
+    bytes: &mut [u8],
+    totals: &mut Totals,
+    team: u32,
+    edit: PlaceEdit,
+) -> Result<Span, Refusal>
+    ensures written { let opened = opening image.old (length words.old) in
+        let admitted = first opened (team_verdict team) in
+        let plan = plan_behind admitted (plan_of (place_edit_of edit) (disc_of image.old)) in
+        let account = account totals.old team in
+        IsTabled plan image.old image.new (length words.old) (length bytes.old) bytes.new
+        account totals.new result }
+    ensures place_edit { IsPlaceEdit (place_edit_of edit) }
+{
+    let edit = edit.whole();
+    let decided = decide_image(image, words, bytes, totals, team, edit);
+    decision::finish_table(image, bytes, decided)
 }
 
 /// The whole edit: opens the image, makes every test, builds the new table in the working bytes, and only

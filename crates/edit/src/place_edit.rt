@@ -1,5 +1,6 @@
 // The edits of a file's place or size, which three calls can make too.
-ghost use Rattle.std.specs.Prelude.{◌≡◌};
+ghost use Rattle.std.specs.Prelude.{◌≡◌, []};
+ghost use Rattle.edit.specs.Inner.Decides.{clip_of};
 ghost use Rattle.ledger.specs.Runs.{IsPassable};
 ghost use Rattle.edit.specs.Asked.{edit_of, place_edit_of, IsPlaceEdit};
 
@@ -19,6 +20,7 @@ impl PlaceEdit {
     pub fn whole(self) -> Edit<'static>
         ensures same { edit_of result ≡ place_edit_of self }
         ensures place_edit { IsPlaceEdit (place_edit_of self) }
+        ensures no_clip { clip_of result ≡ [] }
     {
         match self {
             PlaceEdit::Move { file, offset } => Edit::Move { file, offset },

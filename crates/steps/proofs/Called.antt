@@ -22,7 +22,7 @@ use Rattle.edit.specs.declared.pipeline.Edit.TheVariants as edit
 use Rattle.edit.specs.Asked.{edit_of}
 use Rattle.edit.specs.Inner.Decides.{clip_of}
 use Rattle.edit.specs.Inner.Decision.{IsCarried, carried_verdict, CanCopy, copied_by, CanTable, tabled_by, lost_by, DecidedAs}
-use Rattle.edit.specs.Inner.Accounting.{account_with, IsAccountedFor, IsForeseen}
+use Rattle.edit.specs.Inner.Accounting.{account_with, IsAccountedFor, IsCopied, IsTabled}
 use Rattle.edit.specs.Asked.{IsPlaceEdit}
 use Rattle.steps.specs.Places.{DifferOnlyIn, DifferOnlyInTable}
 use Rattle.steps.specs.Parts.{plan_copy, plan_copied, plan_tabled, plan_span, image_after_copy, image_after_table, plan_table_size}
@@ -30,18 +30,6 @@ use Rattle.steps.specs.Promise.{own_verdict, MakesCopy, span_behind, WritesTable
 use Rattle.steps.specs.Inner.Span.{span_region, IsOnDisc}
 use Rattle.steps.proofs.Laws.OwnParts.{own-copy, own-table}
 use Rattle.steps.proofs.Laws.Splitting.{Parted, parted}
-
--- a move or a resize brings no clip
-no-clip : (x : declared.Edit) → IsPlaceEdit (edit_of x) → clip_of x ≡ []
-no-clip edit.Rewrite h = refl
-no-clip (edit.Move file offset) h = refl
-no-clip (edit.Resize file size) h = refl
-no-clip (edit.Fill file clip) h = absurd h
-no-clip (edit.Insert new) h = refl
-no-clip (edit.MakeDirectories start path) h = refl
-
-without-clip : (x : declared.Edit) (ed : Edit) → edit_of x ≡ ed → IsPlaceEdit ed → clip_of x ≡ []
-without-clip x ed e h = no-clip x (subst IsPlaceEdit (sym e) h)
 
 -- none of a fill, and the end of what it leaves to be zeroed has 32 bits
 abbrev IsPlacePlan : Plan → Type 0
@@ -55,20 +43,6 @@ place-plan words image (refused v) q = tt
 place-plan words image nothing q = tt
 place-plan words image (change k c) q = λ z. omega (arith, (q.safe.zeroed z).2, q.safe.bounds.small)
 place-plan words image (filled k clip p) q = absurd q
-
--- ---- what is decided on can be carried out in parts
-
-can-copy : (v : Verdict) (p : Plan) (image : List ℕ) (room : ℕ) (bytes : List ℕ) (d : Result Decision Refusal) → DecidedAs v p image room bytes [] d → CanCopy image d
-can-copy v p image room bytes (Err c) h = tt
-can-copy v p image room bytes (Ok decision.Nothing) h = tt
-can-copy v p image room bytes (Ok (decision.Clip n at)) h = tt
-can-copy v p image room bytes (Ok (decision.Write n size w)) h = h.fits.1.inside.copied
-
-can-table : (v : Verdict) (p : Plan) (image : List ℕ) (room : ℕ) (bytes : List ℕ) (d : Result Decision Refusal) → DecidedAs v p image room bytes [] d → CanTable image room d
-can-table v p image room bytes (Err c) h = tt
-can-table v p image room bytes (Ok decision.Nothing) h = tt
-can-table v p image room bytes (Ok (decision.Clip n at)) h = tt
-can-table v p image room bytes (Ok (decision.Write n size w)) h = h.fits.1.table
 
 -- ---- the parts, where the plan's tests say v
 
@@ -153,67 +127,60 @@ module _ (ed : Edit) (place : IsPlaceEdit ed) (image : List ℕ) (b : AllBytes i
       let e = first-assoc (opening image words) (team_verdict a.team) (counted_verdict plan a image words room) in
       rw e at (behind (first (opening image words) (team_verdict a.team)) (λ v. place-plan words image plan (parted ed a image words room place b (sym e ∙ v))) f)
 
--- ---- the copy, by what was judged in words₁ and bytes₁, which hold what words and bytes do
+-- ---- the calls, in words₁ and bytes₁, which hold what words and bytes do
 
-module _ (ed : Edit) (place : IsPlaceEdit ed) (team : ℕ) (image words words₁ bytes bytes₁ : List ℕ) (lent : words₁ ≡ words) (lent-bytes : bytes₁ ≡ bytes) (t : Totals) (d : Result Decision Refusal) (all : AllBytes image)
-    (g : IsForeseen (plan_behind (first (opening image (length words₁)) (team_verdict team)) (plan_of ed (disc_of image))) image (length words₁) (length bytes₁) (account t team) d) where
-  seen : IsForeseen (plan_behind (first (opening image (length words)) (team_verdict team)) (plan_of ed (disc_of image))) image (length words) (length bytes) (account t team) d
-  seen = rw (lent, lent-bytes) at g
-
-  copied : IsDone (verdict_of ed (account t team) image (length words) (length bytes)) (plan_of ed (disc_of image)) image seen.bytes d
-  copied = (whole ed place image all (length words) (length bytes) seen.bytes (account t team) seen.totals d seen.accounted).0
-
-  pub can-be-copied : CanCopy image d
-  can-be-copied = can-copy _ _ image (length bytes) seen.bytes d seen.accounted.decided
-
-  copied-is : (image' : List ℕ) → image' ≡ copied_by d image → image' ≡ image_after_copy ed (account t team) image (length words) (length bytes)
-  unfolding image_after_copy
-  copied-is image' i = i ∙ copied.copied
-
-  pub made-copy : (image' words' bytes' : List ℕ) → image' ≡ copied_by d image → words' ≡ zeros words → bytes' ≡ zeros bytes → (r : Verdict) → r ≡ carried_verdict d →
-      MakesCopy own_verdict ed team (loan image words bytes t) (loan image' words' bytes' t) r
-  made-copy image' words' bytes' i zw zb r q = record { answered = q ∙ copied.answer; image = copied-is image' i; totals = refl; words = zw; bytes = zb }
-
-  pub only-copied : (image' : List ℕ) → image' ≡ copied_by d image → DifferOnlyIn image image' (plan_copy (plan_of ed (disc_of image)))
-  only-copied image' i =
-      subst (λ (x : List ℕ). DifferOnlyIn image x (plan_copy (plan_of ed (disc_of image)))) (sym (copied-is image' i)) (own-copy ed (account t team) image (length words) (length bytes) place all)
-
--- ---- the table, by what was decided on
-
--- an edit x of the code, which is the edit ed, was decided on in words₁ and bytes₁, which hold what words and bytes do
-module _ (x : declared.Edit) (ed : Edit) (same : edit_of x ≡ ed) (place : IsPlaceEdit ed) (team : ℕ) (image words words₁ bytes bytes₁ b : List ℕ) (lent : words₁ ≡ words) (lent-bytes : bytes₁ ≡ bytes) (t t' : Totals)
-    (d : Result Decision Refusal) (all : AllBytes image)
-    (g : IsAccountedFor (plan_behind (first (opening image (length words₁)) (team_verdict team)) (plan_of (edit_of x) (disc_of image))) image (length words₁) (length bytes₁) b (clip_of x) (account t team) (account_with d t')) where
-  f : IsAccountedFor (plan_behind (first (opening image (length words)) (team_verdict team)) (plan_of ed (disc_of image))) image (length words) (length bytes) b [] (account t team) (account_with d t')
-  f = rw (without-clip x ed same place, same, lent, lent-bytes) at g
+module _ (ed : Edit) (place : IsPlaceEdit ed) (team : ℕ) (image words words₁ bytes bytes₁ : List ℕ) (lent : words₁ ≡ words) (lent-bytes : bytes₁ ≡ bytes) (t : Totals) (all : AllBytes image) where
+  abbrev plan-behind : ℕ → Plan
+  plan-behind n = plan_behind (first (opening image n) (team_verdict team)) (plan_of ed (disc_of image))
 
   abbrev verdict : Verdict
   verdict = verdict_of ed (account t team) image (length words) (length bytes)
 
-  told : IsDone verdict (plan_of ed (disc_of image)) image b d × (t' ≡ totals_after ed (account t team) image (length words) (length bytes))
-  told = whole ed place image all (length words) (length bytes) b (account t team) t' d f
+  -- ---- the copy
 
-  pub can-be-tabled : length b ≡ length bytes₁ → CanTable image (length b) d
-  can-be-tabled e = rw (e, lent-bytes) (can-table _ _ image (length bytes) b d f.decided)
+  module _ (image' : List ℕ) (r : Verdict) (g : IsCopied (plan-behind (length words₁)) image image' (length words₁) (length bytes₁) (account t team) r) where
+    copied : IsCopied (plan-behind (length words)) image image' (length words) (length bytes) (account t team) r
+    copied = rw (lent, lent-bytes) at g
 
-  tabled-is : (image' : List ℕ) → image' ≡ tabled_by d b image → image' ≡ image_after_table ed (account t team) image (length words) (length bytes)
-  unfolding image_after_table
-  tabled-is image' i = i ∙ told.0.tabled
+    copy-done : IsDone verdict (plan_of ed (disc_of image)) image copied.foreseen.bytes copied.decision
+    copy-done = (whole ed place image all (length words) (length bytes) copied.foreseen.bytes (account t team) copied.foreseen.totals copied.decision copied.foreseen.accounted).0
 
-  pub wrote-table : (image' words' bytes' : List ℕ) → image' ≡ tabled_by d b image → words' ≡ zeros words → bytes' ≡ zeros bytes →
-      (r : Result DiscRegion Refusal) → r ≡ span_behind verdict (plan_span (plan_of ed (disc_of image))) → WritesTable span_behind ed team (loan image words bytes t) (loan image' words' bytes' t') r
-  wrote-table image' words' bytes' i zw zb r q = record { answered = q; image = tabled-is image' i; totals = told.1; words = zw; bytes = zb }
+    copied-is : image' ≡ image_after_copy ed (account t team) image (length words) (length bytes)
+    unfolding image_after_copy
+    copied-is = copied.after ∙ copy-done.copied
 
-  pub only-tabled : (image' : List ℕ) → image' ≡ tabled_by d b image → DifferOnlyInTable image image' (plan_table_size (plan_of ed (disc_of image)))
-  only-tabled image' i =
-      subst (λ (x : List ℕ). DifferOnlyInTable image x (plan_table_size (plan_of ed (disc_of image)))) (sym (tabled-is image' i)) (own-table ed (account t team) image (length words) (length bytes) place all)
+    pub made-copy : (words' bytes' : List ℕ) → words' ≡ zeros words → bytes' ≡ zeros bytes → MakesCopy own_verdict ed team (loan image words bytes t) (loan image' words' bytes' t) r
+    made-copy words' bytes' zw zb = record { answered = copied.answer ∙ copy-done.answer; image = copied-is; totals = refl; words = zw; bytes = zb }
 
-  -- the span that is left, or the refusal, by the answer of the table
-  pub span-told : (r : Result Span Refusal) (s : Span) → r ≡ lost_by d → r ≡ Ok s → Ok (span_region s) ≡ span_behind verdict (plan_span (plan_of ed (disc_of image)))
-  span-told r s p q = (told.0.told s (sym p ∙ q)).0
+    pub only-copied : DifferOnlyIn image image' (plan_copy (plan_of ed (disc_of image)))
+    only-copied = subst (λ (x : List ℕ). DifferOnlyIn image x (plan_copy (plan_of ed (disc_of image)))) (sym copied-is) (own-copy ed (account t team) image (length words) (length bytes) place all)
 
-  pub on-disc : (r : Result Span Refusal) (s : Span) → r ≡ lost_by d → r ≡ Ok s → IsOnDisc s
-  on-disc r s p q = (told.0.told s (sym p ∙ q)).1
+  -- ---- the table
 
-  pub not-told : (r : Result Span Refusal) (c : Refusal) → r ≡ lost_by d → r ≡ Err c → Err c ≡ span_behind verdict (plan_span (plan_of ed (disc_of image)))
-  not-told r c p q = told.0.refusal c (sym p ∙ q)
+  module _ (image' b : List ℕ) (t' : Totals) (r : Result Span Refusal) (g : IsTabled (plan-behind (length words₁)) image image' (length words₁) (length bytes₁) b (account t team) t' r) where
+    tabled : IsTabled (plan-behind (length words)) image image' (length words) (length bytes) b (account t team) t' r
+    tabled = rw (lent, lent-bytes) at g
+
+    table-done : IsDone verdict (plan_of ed (disc_of image)) image b tabled.decision × (t' ≡ totals_after ed (account t team) image (length words) (length bytes))
+    table-done = whole ed place image all (length words) (length bytes) b (account t team) t' tabled.decision tabled.accounted
+
+    tabled-is : image' ≡ image_after_table ed (account t team) image (length words) (length bytes)
+    unfolding image_after_table
+    tabled-is = tabled.after ∙ table-done.0.tabled
+
+    pub wrote-table : (words' bytes' : List ℕ) → words' ≡ zeros words → bytes' ≡ zeros bytes → (answer : Result DiscRegion Refusal) → answer ≡ span_behind verdict (plan_span (plan_of ed (disc_of image))) →
+        WritesTable span_behind ed team (loan image words bytes t) (loan image' words' bytes' t') answer
+    wrote-table words' bytes' zw zb answer q = record { answered = q; image = tabled-is; totals = table-done.1; words = zw; bytes = zb }
+
+    pub only-tabled : DifferOnlyInTable image image' (plan_table_size (plan_of ed (disc_of image)))
+    only-tabled = subst (λ (x : List ℕ). DifferOnlyInTable image x (plan_table_size (plan_of ed (disc_of image)))) (sym tabled-is) (own-table ed (account t team) image (length words) (length bytes) place all)
+
+    -- the span that is left, or the refusal
+    pub span-told : (s : Span) → r ≡ Ok s → Ok (span_region s) ≡ span_behind verdict (plan_span (plan_of ed (disc_of image)))
+    span-told s q = (table-done.0.told s (sym tabled.answer ∙ q)).0
+
+    pub on-disc : (s : Span) → r ≡ Ok s → IsOnDisc s
+    on-disc s q = (table-done.0.told s (sym tabled.answer ∙ q)).1
+
+    pub not-told : (c : Refusal) → r ≡ Err c → Err c ≡ span_behind verdict (plan_span (plan_of ed (disc_of image)))
+    not-told c q = table-done.0.refusal c (sym tabled.answer ∙ q)

@@ -9,10 +9,10 @@ use Rattle.space.specs.declared.region.DiscRegion.{DiscRegion}
 use Rattle.space.specs.MaxRegionSize.{max_region_size}
 use Rattle.opened.specs.Opening.{free_space_of, opening, Disc, free_of}
 use Rattle.opened.specs.Inner.Disc.{Opened, Means}
-use Rattle.edit.specs.Inner.Decision.{ZeroFits}
 use Rattle.steps.specs.Parts.{zero_verdict, image_after_zeros}
 use Rattle.steps.specs.Places.{DifferOnlyIn}
 use Rattle.steps.specs.Promise.{ZeroesWhatIsFree}
+use Rattle.steps.specs.Inner.Span.{IsInImage}
 use Rattle.steps.proofs.Laws.OwnParts.{span-fits, own-zeros}
 use Rattle.steps.proofs.Laws.WhollyFree.{zeroes-what-is-free}
 
@@ -43,8 +43,8 @@ module _ (image : List ℕ) (words : ℕ) (d : Opened) (o : Means image d × (d.
 
 module _ (image : List ℕ) (words : ℕ) (span : DiscRegion) where
   -- a span that passes lies in the image
-  pub zeros-fit : AllBytes image → zero_verdict image words span ≡ Ok tt → ZeroFits (length image) span.offset span.size
-  zeros-fit b v = record { into = span-fits image words span b v }
+  pub zeros-fit : AllBytes image → zero_verdict image words span ≡ Ok tt → IsInImage image span
+  zeros-fit b v = span-fits image words span b v
 
   pub zeroed : (image' : List ℕ) → zero_verdict image words span ≡ Ok tt → image' ≡ put image span.offset (replicate span.size 0) → image' ≡ image_after_zeros image words span
   unfolding image_after_zeros

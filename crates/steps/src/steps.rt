@@ -2,6 +2,7 @@
 ghost use Rattle.std.specs.Prelude.{◌≡◌, length};
 ghost use Rattle.endian.specs.Bytes.{AllBytes};
 ghost use Rattle.opened.specs.Opening.{zeros, disc_of};
+ghost use Rattle.edit_rules.specs.Change.{zeroed_image};
 ghost use Rattle.edit_rules.specs.Edits.{plan_of};
 ghost use Rattle.edit_rules.specs.Promise.{loan};
 ghost use Rattle.edit.specs.Asked.{place_edit_of};
@@ -9,6 +10,7 @@ ghost use Rattle.steps.specs.Parts.{plan_copy, plan_table_size, zero_verdict, im
 ghost use Rattle.steps.specs.Places.{DifferOnlyIn, DifferOnlyInTable};
 ghost use Rattle.steps.specs.Promise.{own_verdict, MakesCopy, span_behind, WritesTable};
 ghost use Rattle.steps.specs.Promise.{ZeroesWhatIsFree};
+ghost use Rattle.steps.specs.Inner.Span.{IsInImage};
 
 use crate::span;
 use edit::PlaceEdit;
@@ -43,8 +45,7 @@ pub fn copy(
     let words = Lent::new(words);
     let bytes = Lent::new(bytes);
     let room = bytes.memory.len();
-    let decided = edit::judge_image(image, words.memory, room, totals, team, edit);
-    edit::finish_copy(image, decided)
+    edit::copy_part(image, words.memory, room, totals, team, edit)
 }
 
 /// The second call: makes every test again, on the image as it is. Writes the new table, zeros over the old
@@ -67,9 +68,7 @@ pub fn write_table(
     of_bytes(image);
     let words = Lent::new(words);
     let bytes = Lent::new(bytes);
-    let edit = edit.whole();
-    let decided = edit::decide_image(image, words.memory, bytes.memory, totals, team, edit);
-    let lost = edit::finish_table(image, bytes.memory, decided)?;
+    let lost = edit::table_part(image, words.memory, bytes.memory, totals, team, edit)?;
     Ok(span::region(lost))
 }
 
@@ -84,6 +83,17 @@ fn check_span(image: &[u8], words: &mut [u32], span: DiscRegion) -> Verdict
     Ok(())
 }
 
+// No byte may be asked for at a place past the image: an empty span may lie anywhere.
+fn write_zeros(image: &mut [u8], span: DiscRegion)
+    requires { IsInImage image.old span }
+    ensures { image.new ≡ zeroed_image span image.old }
+{
+    if span.size == 0 {
+        return;
+    }
+    endian::fill(image, span.offset as usize, span.size as usize, 0);
+}
+
 /// The third call: zeros over a span of which each byte is free, else 29. An empty span may lie anywhere.
 pub fn zero(image: &mut [u8], words: &mut [u32], span: DiscRegion) -> Verdict
     ensures answer { result ≡ zero_verdict image.old (length words.old) span }
@@ -95,6 +105,6 @@ pub fn zero(image: &mut [u8], words: &mut [u32], span: DiscRegion) -> Verdict
     of_bytes(image);
     let words = Lent::new(words);
     check_span(image, words.memory, span)?;
-    edit::zero_lost(image, span.offset as usize, span.size as usize);
+    write_zeros(image, span);
     Ok(())
 }

@@ -17,7 +17,8 @@ use Rattle.edit_rules.specs.Change.{Plan}
 use Rattle.edit_rules.specs.Edits.{Account, plan_image, counted_verdict, totals_to}
 use Rattle.edit.specs.declared.decision.Decision.{Decision}
 use Rattle.edit.specs.declared.decision.Decision.TheVariants as decision
-use Rattle.edit.specs.Inner.Decision.{DecidedAs}
+use Rattle.edit.specs.declared.decision.Span.{Span}
+use Rattle.edit.specs.Inner.Decision.{DecidedAs, carried_verdict, copied_by, tabled_by, lost_by}
 
 -- a table that is to be written ends on the disc; nothing is asked of an edit that is refused
 abbrev pub OnDisc : Disc → Result Decision Refusal → Type 0
@@ -105,3 +106,17 @@ pub record IsForeseen (p : Plan) (image : List ℕ) (words room : ℕ) (a : Acco
   pub bytes : List ℕ
   pub totals : Totals
   pub accounted : IsAccountedFor p image words room bytes [] a (account_with r totals)
+
+-- what was decided on so is copied, and nothing else
+pub record IsCopied (p : Plan) (image image' : List ℕ) (words room : ℕ) (a : Account) (r : Verdict) : Type 0 where
+  pub decision : Result Decision Refusal
+  pub foreseen : IsForeseen p image words room a decision
+  pub after : image' ≡ copied_by decision image
+  pub answer : r ≡ carried_verdict decision
+
+-- its table is written, from these working bytes, and nothing else; the record is t' then
+pub record IsTabled (p : Plan) (image image' : List ℕ) (words room : ℕ) (bytes : List ℕ) (a : Account) (t' : Totals) (r : Result Span Refusal) : Type 0 where
+  pub decision : Result Decision Refusal
+  pub accounted : IsAccountedFor p image words room bytes [] a (account_with decision t')
+  pub after : image' ≡ tabled_by decision bytes image
+  pub answer : r ≡ lost_by decision
