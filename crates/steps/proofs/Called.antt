@@ -17,11 +17,7 @@ use Rattle.edit.specs.declared.decision.Span.{Span}
 use Rattle.edit.specs.declared.decision.Writing.{Writing}
 use Rattle.edit.specs.declared.decision.Decision.{Decision}
 use Rattle.edit.specs.declared.decision.Decision.TheVariants as decision
-use Rattle.edit.specs.declared.pipeline.Edit as declared
-use Rattle.edit.specs.declared.pipeline.Edit.TheVariants as edit
-use Rattle.edit.specs.Asked.{edit_of}
-use Rattle.edit.specs.Inner.Decides.{clip_of}
-use Rattle.edit.specs.Inner.Decision.{IsCarried, carried_verdict, CanCopy, copied_by, CanTable, tabled_by, lost_by, DecidedAs}
+use Rattle.edit.specs.Inner.Decision.{IsCarried, carried_verdict, copied_by, tabled_by, lost_by, DecidedAs}
 use Rattle.edit.specs.Inner.Accounting.{account_with, IsAccountedFor, IsCopied, IsTabled}
 use Rattle.edit.specs.Asked.{IsPlaceEdit}
 use Rattle.steps.specs.Places.{DifferOnlyIn, DifferOnlyInTable}
