@@ -1,0 +1,88 @@
+-- Same tree, same table: what fixes the table that an edit writes, that a second rewrite alters nothing, and what no stored
+-- parent has an influence on (RULES, Same tree, same table). Proved in proofs/Laws. Assumes nothing: these are definitions.
+use Rattle.std.specs.Prelude.{Ok, ℕ, ◌+◌, ◌-◌, ◌*◌, ◌^◌, ◌<◌, ◌≤◌, ◌≡◌, true, List, length, nat_lt}
+use Rattle.endian.specs.Bytes.{put, AllBytes}
+use Rattle.refusal.specs.declared.Refusal.TheVariants.{TotalsOutOfRange}
+use Rattle.refusal.specs.Refusal.{refuse, first}
+use Rattle.header.specs.Verdicts.{fst_offset}
+use Rattle.tree.specs.Table.{kind, count}
+use Rattle.totals.specs.Totals.{team_of, team_verdict, totals_verdict}
+use Rattle.opened.specs.Opening.{table_of, nodes_in, opening, disc_of}
+use Rattle.edit_rules.specs.Edits.{Edit, Account, account, rewrite, plan_of, plan_tree, space_change, verdict_of, image_after, totals_after}
+use Rattle.ledger.specs.Runs.{IsPassable}
+use Rattle.edit.specs.TableAnew.{table_anew, anew_verdict}
+use Rattle.same_table.specs.Trees.{IsSameTree, HasTableOf, HaveSameTable, is_tabled, IsFixedByTree}
+use Rattle.same_table.specs.Unread.{DifferInUnread}
+
+-- ---- the tree fixes the table, and the table the tree
+
+-- THEOREM: of two images that open, names, order, kinds, nesting, offsets and sizes are the whole tree: they fix where each
+-- directory ends
+abbrev pub WholeTree : Type 0
+WholeTree =
+    (image image' : List ℕ) (w w' : ℕ) → AllBytes image → AllBytes image' → opening image w ≡ Ok tt → opening image' w' ≡ Ok tt →
+    IsSameTree (nodes_in image) (nodes_in image') → nodes_in image ≡ nodes_in image'
+
+-- THEOREM: an accepted edit that writes a table leaves the written table of its tree, whatever table there was
+abbrev pub WrittenTable : Type 0
+WrittenTable =
+    (ed : Edit) (a : Account) (image : List ℕ) (words bytes : ℕ) → IsPassable ed → AllBytes image → verdict_of ed a image words bytes ≡ Ok tt →
+    is_tabled (plan_of ed (disc_of image)) ≡ true → HasTableOf (image_after ed a image words bytes) (plan_tree (plan_of ed (disc_of image)) (nodes_in image))
+
+-- THEOREM: two images with the same tree get the same table from an edit whose tree that fixes, if both accept it: with
+-- whatever records, teams and memory, whatever texts their names share, and wherever their tables lie
+abbrev pub SameTable : Type 0
+SameTable =
+    (ed : Edit) (a a' : Account) (image image' : List ℕ) (words words' bytes bytes' : ℕ) → IsPassable ed → AllBytes image → AllBytes image' →
+    IsSameTree (nodes_in image) (nodes_in image') → IsFixedByTree (nodes_in image) ed → verdict_of ed a image words bytes ≡ Ok tt → verdict_of ed a' image' words' bytes' ≡ Ok tt →
+    HaveSameTable (image_after ed a image words bytes) (image_after ed a' image' words' bytes')
+
+-- THEOREM: and only these: where `table_anew` tells the table that a rewrite writes of each, equal tables are of the same tree
+abbrev pub SameTree : Type 0
+SameTree =
+    (image image' : List ℕ) (words words' room room' : ℕ) → AllBytes image → AllBytes image' → anew_verdict image words room ≡ Ok tt → anew_verdict image' words' room' ≡ Ok tt →
+    (IsSameTree (nodes_in image) (nodes_in image') → table_anew image ≡ table_anew image')
+    × (table_anew image ≡ table_anew image' → IsSameTree (nodes_in image) (nodes_in image'))
+
+-- ---- a second rewrite
+
+-- of the image that an accepted rewrite leaves
+pub record IsWrittenAnew (a : Account) (image : List ℕ) (words bytes : ℕ) (new : List ℕ) : Type 0 where
+  -- no rewrite alters a byte of it
+  pub unaltered : (a' : Account) (words' bytes' : ℕ) → image_after rewrite a' new words' bytes' ≡ new
+  -- with as much memory only the record that goes in, and the team, can refuse one
+  pub by-record : (a' : Account) (words' bytes' : ℕ) → words ≤ words' → bytes ≤ bytes' →
+      verdict_of rewrite a' new words' bytes' ≡ first (team_verdict a'.team) (totals_verdict a'.totals a'.team (space_change new new))
+  -- and with the record that the first one handed back only its team's count of edits
+  pub by-count : (words' bytes' : ℕ) → words ≤ words' → bytes ≤ bytes' →
+      verdict_of rewrite (account (totals_after rewrite a image words bytes) a.team) new words' bytes'
+      ≡ refuse (nat_lt (2 ^ 32 - 1) ((team_of (totals_after rewrite a image words bytes) a.team).edits + 1)) TotalsOutOfRange (Ok tt)
+
+-- THEOREM
+abbrev pub SecondRewrite : Type 0
+SecondRewrite =
+    (a : Account) (image : List ℕ) (words bytes : ℕ) → AllBytes image → verdict_of rewrite a image words bytes ≡ Ok tt →
+    IsWrittenAnew a image words bytes (image_after rewrite a image words bytes)
+
+-- ---- what no call reads
+
+-- the images open alike, with any words, to the same disc, on which every edit is decided
+pub record OpenAlike (image new : List ℕ) : Type 0 where
+  pub opens : (w : ℕ) → opening new w ≡ opening image w
+  pub disc : disc_of new ≡ disc_of image
+
+-- the edit has the same verdict of both and hands back the same record; and one that writes a table leaves the same image,
+-- every byte
+pub record EditAlike (ed : Edit) (a : Account) (image new : List ℕ) (words bytes : ℕ) : Type 0 where
+  pub verdict : verdict_of ed a new words bytes ≡ verdict_of ed a image words bytes
+  pub totals : totals_after ed a new words bytes ≡ totals_after ed a image words bytes
+  pub written : verdict_of ed a image words bytes ≡ Ok tt → is_tabled (plan_of ed (disc_of image)) ≡ true → image_after ed a new words bytes ≡ image_after ed a image words bytes
+
+-- THEOREM: of an image that opens: whatever stands in the bytes that no call reads; such are four bytes put over the stored
+-- parent of any directory, the root's too, and three over the root's name offset
+abbrev pub NoInfluence : Type 0
+NoInfluence =
+    (image : List ℕ) (w : ℕ) → AllBytes image → opening image w ≡ Ok tt →
+    ((new : List ℕ) → DifferInUnread image new → OpenAlike image new × ((ed : Edit) (a : Account) (words bytes : ℕ) → IsPassable ed → EditAlike ed a image new words bytes))
+    × ((k : ℕ) (bs : List ℕ) → k < count (table_of image) → kind (table_of image) k ≡ 1 → length bs ≡ 4 → DifferInUnread image (put image (fst_offset image + (12 * k + 4)) bs))
+    × ((bs : List ℕ) → length bs ≡ 3 → DifferInUnread image (put image (fst_offset image + 1) bs))
