@@ -1,1 +1,2 @@
 -- What follows from the definitions.
+pub mod SafeChange
