@@ -6,3 +6,7 @@ pub mod WrittenTable
 pub mod FixedByTree
 pub mod GrowthApart
 pub mod SecondRewrite
+pub mod UnreadTable
+pub mod UnreadImage
+pub mod UnreadFields
+pub mod UnreadEdits
