@@ -5,12 +5,12 @@ use Rattle.std.proofs.Common.{sym, ap, subst, ◌∙◌, arith, le-leb, ne_eqb}
 use Rattle.refusal.specs.declared.Refusal.TheVariants.{LimitOrMemory, NoSuchEntry}
 use Rattle.refusal.specs.Refusal.{Verdict, refuse, first}
 use Rattle.endian.specs.Bytes.{AllBytes}
-use Rattle.tree.specs.Table.{Node, empty_root, encode}
+use Rattle.tree.specs.Table.{Node, empty_root}
 use Rattle.tree.specs.Lookup.{components}
 use Rattle.tree.specs.Insert.{insert_at, empty_file, empty_directory}
 use Rattle.space.specs.declared.region.DiscRegion.{DiscRegion}
 use Rattle.opened.specs.Opening.{nodes_in, region_of, Disc, disc_of, free_of}
-use Rattle.edit_rules.specs.Change.{Plan, refused, nothing, change, filled}
+use Rattle.edit_rules.specs.Change.{Plan, change, filled}
 use Rattle.edit_rules.specs.Edits.{Edit, Account, insert_file, insert_directory, make_directories, move_file, resize_file, fill_file, rewrite, table_change, plan_behind, new_number, insert_verdict, Made, stopped, made, make, plan_made, plan_make_directories, file_verdict, relocation_change, relocate_verdict, plan_move, resize_change, plan_sized, plan_resize, clip_verdict, plan_fill, plan_of, plan_verdict, plan_tree, verdict_of, image_after}
 use Rattle.edit_rules.proofs.Laws.Accepted.{accepted}
 use Rattle.ledger.specs.Runs.{IsPassable}
