@@ -20,7 +20,7 @@ use Rattle.same_table.proofs.Laws.WholeTree.{whole-tree}
 use Rattle.same_table.proofs.Laws.WrittenTable.{written-table}
 
 -- what such an edit plans, if its tests pass
-abbrev fixed_plan : List Node → Edit → Plan
+abbrev pub fixed_plan : List Node → Edit → Plan
 fixed_plan nodes (insert_file p nm) = change (new_number nodes p) (table_change (insert_at p (empty_file nm) nodes))
 fixed_plan nodes (insert_directory p nm) = change (new_number nodes p) (table_change (insert_at p (empty_directory nm (new_number nodes p)) nodes))
 fixed_plan nodes (make_directories start path) = plan_made (make nodes [] start false (components path))
@@ -55,7 +55,7 @@ module _ (d : Disc) (words bytes : ℕ) where
   resized k n h e = (passed-behind (file_verdict d.nodes k) (plan_sized (free_of d) d.nodes k (region_of (get_or d.nodes k empty_root)) n) e).0 ∙ smaller k n h
 
   -- LAW
-  plan-fixed : (ed : Edit) → IsFixedByTree d.nodes ed → Passes (plan_of ed d) → (plan_of ed d ≡ fixed_plan d.nodes ed) × (is_tabled (fixed_plan d.nodes ed) ≡ true)
+  pub plan-fixed : (ed : Edit) → IsFixedByTree d.nodes ed → Passes (plan_of ed d) → (plan_of ed d ≡ fixed_plan d.nodes ed) × (is_tabled (fixed_plan d.nodes ed) ≡ true)
   unfolding plan_make_directories plan_move plan_fill
   plan-fixed (insert_file p nm) h e = ((passed-behind (insert_verdict d.nodes p nm) (fixed_plan d.nodes (insert_file p nm)) e).0, refl)
   plan-fixed (insert_directory p nm) h e = ((passed-behind (insert_verdict d.nodes p nm) (fixed_plan d.nodes (insert_directory p nm)) e).0, refl)

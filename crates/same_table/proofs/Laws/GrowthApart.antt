@@ -1,8 +1,7 @@
 -- Why an edit that gives a file more bytes is none of those whose tree the old tree fixes: on two discs with the same entries, of which the tables end
 -- at different places, it is accepted and comes to different trees, since the free space behind the table holds another place. Assumes nothing.
-use Rattle.std.specs.Prelude.{Ok, ℕ, zero, suc, ◌+◌, ◌-◌, ◌<◌, ◌≤◌, ◌≡◌, refl, Bool, true, false, not, List, [], ◌∷◌, length, get_or}
-use Rattle.std.proofs.Common.{sym, ap, ◌∙◌, ⊎_elim, arith, le-leb, lt-ltb, le-ltb, eq-eqb}
-use Rattle.std.proofs.lemmas.Bool.{lt-leb}
+use Rattle.std.specs.Prelude.{Ok, ℕ, zero, suc, ◌+◌, ◌-◌, ◌<◌, ◌≤◌, ◌≡◌, refl, Bool, true, false, List, [], ◌∷◌, length, get_or}
+use Rattle.std.proofs.Common.{sym, ap, ◌∙◌, ⊎_elim, arith, eq-eqb}
 use Rattle.refusal.specs.Laws.Tests.{lt-or-le}
 use Rattle.tree.specs.Table.{Node, file, directory, empty_root, dirs_open_at, parent_below, parent_of, entries_bytes, texts_of, encode, is_shallow_from, is_shallow, limits}
 use Rattle.tree.specs.Insert.{set_place}
@@ -44,7 +43,7 @@ no-bytes : (p : ℕ → Bool) (i : ℕ) → runs p i 0 ≡ []
 unfolding runs
 no-bytes p i = refl
 
--- a stretch that passes, before none that do
+-- a stretch that passes, with no byte that passes behind it
 run-before : (p : ℕ → Bool) (i n m : ℕ) → ((j : ℕ) → i ≤ j → j < i + suc n → p j ≡ true) → runs p (i + suc n) m ≡ [] → runs p i (suc n + m) ≡ at i (suc n) ∷ []
 unfolding runs
 run-before p i zero m h e =
@@ -92,6 +91,7 @@ module _ (end : ℕ) (less : end < 0x20000) where
 
 -- ---- an edit on both
 
+-- the table ends at 0x7000 here, and there at 0x9000
 abbrev pub near : Disc
 near = disc_behind 0x7000
 
