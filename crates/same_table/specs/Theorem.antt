@@ -64,6 +64,12 @@ SecondRewrite =
     (a : Account) (image : List ℕ) (words bytes : ℕ) → AllBytes image → verdict_of rewrite a image words bytes ≡ Ok tt →
     IsWrittenAnew a image words bytes (image_after rewrite a image words bytes)
 
+-- THEOREM: so it is with every image that opens and has the written table of its tree, as an edit leaves it that writes one
+abbrev pub WrittenStays : Type 0
+WrittenStays =
+    (image : List ℕ) (w : ℕ) → AllBytes image → opening image w ≡ Ok tt → HasTableOf image (nodes_in image) →
+    (a : Account) (words bytes : ℕ) → image_after rewrite a image words bytes ≡ image
+
 -- ---- what no call reads
 
 -- the images open alike, with any words, to the same disc, on which every edit is decided

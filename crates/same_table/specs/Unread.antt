@@ -1,6 +1,6 @@
 -- The bytes of a table that no call reads: the root's name offset, and the parent that each directory stores, the root's
 -- too (RULES, Same tree, same table). Assumes nothing: these are definitions.
-use Rattle.std.specs.Prelude.{ℕ, ◌+◌, ◌-◌, ◌*◌, ◌/◌, ◌%◌, ◌≡◌, ◌==◌, Bool, false, not, ◌&&◌, ◌||◌, List, length, nat_lt, nat_le, slice_index}
+use Rattle.std.specs.Prelude.{ℕ, ◌-◌, ◌*◌, ◌/◌, ◌%◌, ◌≡◌, ◌==◌, Bool, false, not, ◌&&◌, ◌||◌, List, length, nat_lt, nat_le, slice_index}
 use Rattle.header.specs.Verdicts.{fst_offset}
 use Rattle.tree.specs.Units.{is_within}
 use Rattle.tree.specs.Table.{kind, count}

@@ -4,7 +4,7 @@
 #![tactic(auto)]
 
 ghost use Rattle.same_table.specs.Theorem.{WholeTree, WrittenTable, SameTable, SameTree};
-ghost use Rattle.same_table.specs.Theorem.{SecondRewrite, NoInfluence};
+ghost use Rattle.same_table.specs.Theorem.{SecondRewrite, WrittenStays, NoInfluence};
 
 // Names, order, kinds, nesting, offsets and sizes are the whole tree.
 pub fn whole_tree()
@@ -29,6 +29,11 @@ pub fn same_tree()
 // A second rewrite alters no byte.
 pub fn second_rewrite()
     ensures { SecondRewrite }
+{}
+
+// A rewrite of an image that has the written table of its tree alters no byte.
+pub fn written_stays()
+    ensures { WrittenStays }
 {}
 
 // No stored parent has an influence on an edit, nor has the root's name offset.

@@ -5,12 +5,12 @@ use Rattle.std.proofs.Common.{sym, ap, subst, ◌∙◌, arith, le-leb, ne_eqb}
 use Rattle.refusal.specs.declared.Refusal.TheVariants.{LimitOrMemory, NoSuchEntry}
 use Rattle.refusal.specs.Refusal.{Verdict, refuse, first}
 use Rattle.endian.specs.Bytes.{AllBytes}
-use Rattle.tree.specs.Table.{Node, empty_root, encode}
+use Rattle.tree.specs.Table.{Node, empty_root}
 use Rattle.tree.specs.Lookup.{components}
 use Rattle.tree.specs.Insert.{insert_at, empty_file, empty_directory}
 use Rattle.space.specs.declared.region.DiscRegion.{DiscRegion}
 use Rattle.opened.specs.Opening.{nodes_in, region_of, Disc, disc_of, free_of}
-use Rattle.edit_rules.specs.Change.{Plan, refused, nothing, change, filled}
+use Rattle.edit_rules.specs.Change.{Plan, change, filled}
 use Rattle.edit_rules.specs.Edits.{Edit, Account, insert_file, insert_directory, make_directories, move_file, resize_file, fill_file, rewrite, table_change, plan_behind, new_number, insert_verdict, Made, stopped, made, make, plan_made, plan_make_directories, file_verdict, relocation_change, relocate_verdict, plan_move, resize_change, plan_sized, plan_resize, clip_verdict, plan_fill, plan_of, plan_verdict, plan_tree, verdict_of, image_after}
 use Rattle.edit_rules.proofs.Laws.Accepted.{accepted}
 use Rattle.ledger.specs.Runs.{IsPassable}
@@ -20,7 +20,7 @@ use Rattle.same_table.proofs.Laws.WholeTree.{whole-tree}
 use Rattle.same_table.proofs.Laws.WrittenTable.{written-table}
 
 -- what such an edit plans, if its tests pass
-abbrev fixed_plan : List Node → Edit → Plan
+abbrev pub fixed_plan : List Node → Edit → Plan
 fixed_plan nodes (insert_file p nm) = change (new_number nodes p) (table_change (insert_at p (empty_file nm) nodes))
 fixed_plan nodes (insert_directory p nm) = change (new_number nodes p) (table_change (insert_at p (empty_directory nm (new_number nodes p)) nodes))
 fixed_plan nodes (make_directories start path) = plan_made (make nodes [] start false (components path))
@@ -55,7 +55,7 @@ module _ (d : Disc) (words bytes : ℕ) where
   resized k n h e = (passed-behind (file_verdict d.nodes k) (plan_sized (free_of d) d.nodes k (region_of (get_or d.nodes k empty_root)) n) e).0 ∙ smaller k n h
 
   -- LAW
-  plan-fixed : (ed : Edit) → IsFixedByTree d.nodes ed → Passes (plan_of ed d) → (plan_of ed d ≡ fixed_plan d.nodes ed) × (is_tabled (fixed_plan d.nodes ed) ≡ true)
+  pub plan-fixed : (ed : Edit) → IsFixedByTree d.nodes ed → Passes (plan_of ed d) → (plan_of ed d ≡ fixed_plan d.nodes ed) × (is_tabled (fixed_plan d.nodes ed) ≡ true)
   unfolding plan_make_directories plan_move plan_fill
   plan-fixed (insert_file p nm) h e = ((passed-behind (insert_verdict d.nodes p nm) (fixed_plan d.nodes (insert_file p nm)) e).0, refl)
   plan-fixed (insert_directory p nm) h e = ((passed-behind (insert_verdict d.nodes p nm) (fixed_plan d.nodes (insert_directory p nm)) e).0, refl)

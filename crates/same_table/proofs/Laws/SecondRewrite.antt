@@ -35,7 +35,7 @@ use Rattle.ledger.proofs.Laws.Room.{TableRoom, room, free-places}
 use Rattle.ledger.proofs.Laws.Kept.{Kept, tabled, table-safe}
 use Rattle.ledger.proofs.Laws.Sequence.{start}
 use Rattle.same_table.specs.Trees.{HasTableOf}
-use Rattle.same_table.specs.Theorem.{IsWrittenAnew, SecondRewrite}
+use Rattle.same_table.specs.Theorem.{IsWrittenAnew, SecondRewrite, WrittenStays}
 
 -- ---- an image whose table is the written one of its tree
 
@@ -201,6 +201,10 @@ module _ (a : Account) (image : List ℕ) (words bytes : ℕ) (b : AllBytes imag
     by-record = λ a' words' bytes' more room'. by-record words' bytes' more room' a';
     by-count = λ words' bytes' more room'. rw totals-are (by-count words' bytes' more room');
   }
+
+-- THEOREM
+pub written-stays : WrittenStays
+written-stays image w b e has = image-stays image b (opened image w e b) has
 
 -- THEOREM
 pub second-rewrite : SecondRewrite

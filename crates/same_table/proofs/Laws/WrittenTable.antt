@@ -5,7 +5,6 @@ use Rattle.std.proofs.lemmas.Bool.{false≢true}
 use Rattle.endian.specs.Bytes.{put, be32}
 use Rattle.endian.specs.Laws.Stored.{span_ext}
 use Rattle.header.specs.Verdicts.{fst_offset, fst_size, table_end}
-use Rattle.tree.specs.Table.{Node}
 use Rattle.opened.specs.Opening.{table_of, nodes_in, disc_of}
 use Rattle.edit_rules.specs.Change.{Plan, refused, nothing, change, filled}
 use Rattle.edit_rules.specs.Edits.{plan_of, plan_tree, plan_image, image_after}
