@@ -2,6 +2,7 @@
 pub mod WholeTree
 pub mod TablesTell
 pub mod SafeChange
+pub mod Tabled
 pub mod WrittenTable
 pub mod FixedByTree
 pub mod GrowthApart

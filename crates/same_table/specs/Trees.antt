@@ -1,6 +1,6 @@
 -- Trees that are the same, and images with the table of a tree (RULES, Same tree, same table). Assumes nothing:
 -- these are definitions.
-use Rattle.std.specs.Prelude.{ℕ, ◌<◌, ◌≡◌, Bool, true, false, List, map, length, slice_index_or}
+use Rattle.std.specs.Prelude.{ℕ, ◌<◌, ◌≡◌, ◌≢◌, Bool, true, false, List, map, length, slice_index_or}
 use Rattle.header.specs.Verdicts.{fst_size}
 use Rattle.tree.specs.Table.{Node, file, directory, empty_root, parent_of, encode}
 use Rattle.opened.specs.Opening.{table_of, region_of}
@@ -38,6 +38,16 @@ is_tabled (filled k clip p) = is_tabled p
 
 abbrev pub file_size : List Node → ℕ → ℕ
 file_size nodes k = (region_of (slice_index_or nodes k empty_root)).size
+
+-- an edit that, if it is accepted, writes a table: any but a resize or a fill to the size that the file has
+abbrev pub WritesTable : List Node → Edit → Type 0
+WritesTable nodes (insert_file p nm) = Unit {0}
+WritesTable nodes (insert_directory p nm) = Unit {0}
+WritesTable nodes (make_directories start path) = Unit {0}
+WritesTable nodes (move_file k to) = Unit {0}
+WritesTable nodes (resize_file k n) = n ≢ file_size nodes k
+WritesTable nodes (fill_file k clip) = length clip ≢ file_size nodes k
+WritesTable nodes rewrite = Unit {0}
 
 -- the edit writes a table, and its tree is fixed by the old one: every edit but a resize or a fill that makes the file no
 -- smaller. To the same size none is written; a growth may look for a place, which depends on where the old table ends

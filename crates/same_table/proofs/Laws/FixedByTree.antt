@@ -14,7 +14,7 @@ use Rattle.edit_rules.specs.Change.{Plan, change, filled}
 use Rattle.edit_rules.specs.Edits.{Edit, Account, insert_file, insert_directory, make_directories, move_file, resize_file, fill_file, rewrite, table_change, plan_behind, new_number, insert_verdict, Made, stopped, made, make, plan_made, plan_make_directories, file_verdict, relocation_change, relocate_verdict, plan_move, resize_change, plan_sized, plan_resize, clip_verdict, plan_fill, plan_of, plan_verdict, plan_tree, verdict_of, image_after}
 use Rattle.edit_rules.proofs.Laws.Accepted.{accepted}
 use Rattle.ledger.specs.Runs.{IsPassable}
-use Rattle.same_table.specs.Trees.{HasTableOf, HaveSameTable, is_tabled, file_size, IsFixedByTree}
+use Rattle.same_table.specs.Trees.{HasTableOf, HaveSameTable, is_tabled, file_size, WritesTable, IsFixedByTree}
 use Rattle.same_table.specs.Theorem.{SameTable}
 use Rattle.same_table.proofs.Laws.WholeTree.{whole-tree}
 use Rattle.same_table.proofs.Laws.WrittenTable.{written-table}
@@ -72,6 +72,15 @@ module _ (d : Disc) (words bytes : ℕ) where
       (q.0 ∙ ap (filled k clip) (resized k (length clip) h q.1), refl)
   plan-fixed rewrite h e = (refl, refl)
 
+fixed-writes : (nodes : List Node) (ed : Edit) → IsFixedByTree nodes ed → WritesTable nodes ed
+fixed-writes nodes (insert_file p nm) h = tt
+fixed-writes nodes (insert_directory p nm) h = tt
+fixed-writes nodes (make_directories start path) h = tt
+fixed-writes nodes (move_file k to) h = tt
+fixed-writes nodes (resize_file k n) h = λ e. omega (arith, h)
+fixed-writes nodes (fill_file k clip) h = λ e. omega (arith, h)
+fixed-writes nodes rewrite h = tt
+
 -- of an accepted one, the written table of the tree that it plans
 module _ (ed : Edit) (a : Account) (image : List ℕ) (words bytes : ℕ) (h : IsPassable ed) (b : AllBytes image) (f : IsFixedByTree (nodes_in image) ed) (v : verdict_of ed a image words bytes ≡ Ok tt) where
   fixed : (plan_of ed (disc_of image) ≡ fixed_plan (nodes_in image) ed) × (is_tabled (fixed_plan (nodes_in image) ed) ≡ true)
@@ -81,7 +90,7 @@ module _ (ed : Edit) (a : Account) (image : List ℕ) (words bytes : ℕ) (h : I
   pub fixed-table : HasTableOf (image_after ed a image words bytes) (plan_tree (fixed_plan (nodes_in image) ed) (nodes_in image))
   fixed-table =
       subst (λ (p : Plan). HasTableOf (image_after ed a image words bytes) (plan_tree p (nodes_in image))) fixed.0
-      (written-table ed a image words bytes h b v (ap is_tabled fixed.0 ∙ fixed.1))
+      (written-table ed a image words bytes h b v (fixed-writes (nodes_in image) ed f))
 
 same_tables : (image image' : List ℕ) (nodes : List Node) → HasTableOf image nodes → HasTableOf image' nodes → HaveSameTable image image'
 same_tables image image' nodes x y = record { table = x.table ∙ sym y.table; size = x.size ∙ sym y.size }

@@ -11,7 +11,7 @@ use Rattle.refusal.specs.Laws.Tests.{lt-or-le}
 use Rattle.header.specs.Verdicts.{fst_offset, fst_size}
 use Rattle.tree.specs.Table.{encode}
 use Rattle.totals.specs.Totals.{team_verdict, totals_verdict, moved_totals}
-use Rattle.opened.specs.Opening.{free_space_of, used_of, opening, Disc, disc_of}
+use Rattle.opened.specs.Opening.{nodes_in, free_space_of, used_of, opening, Disc, disc_of}
 use Rattle.edit_rules.specs.Change.{Change, padded_table, image_with_table, copied_image, written_image, Plan, refused, nothing, change, filled}
 use Rattle.edit_rules.specs.Edits.{Edit, Account, plan_of, plan_verdict, plan_image, space_change, counted_verdict, verdict_of, image_after, totals_after}
 use Rattle.edit_rules.proofs.Laws.Accepted.{accepted}
@@ -23,9 +23,10 @@ use Rattle.ledger.proofs.Laws.Kept.{Kept, opened-kept}
 use Rattle.ledger.proofs.Laws.Sequence.{start}
 use Rattle.ledger.proofs.Laws.Steps.{step-accepted, step}
 use Rattle.steps.proofs.Laws.FreePlace.{span_same}
-use Rattle.same_table.specs.Trees.{is_tabled}
+use Rattle.same_table.specs.Trees.{is_tabled, WritesTable}
 use Rattle.same_table.specs.Unread.{DifferInUnread}
 use Rattle.same_table.specs.Theorem.{EditAlike, NoInfluence, ListAlike, NoInfluenceAlong}
+use Rattle.same_table.proofs.Laws.Tabled.{plan-tabled}
 use Rattle.same_table.proofs.Laws.SafeChange.{SafeChange, clip_offset, IsSafePlan, safe-plan}
 use Rattle.same_table.proofs.Laws.UnreadImage.{SameButUnread, same-but-unread, start-same, size_same, tree-unread, used-unread, free-unread, opening-unread, disc-unread, open-alike, put-alike, put-unread, put-differ}
 use Rattle.same_table.proofs.Laws.UnreadFields.{parent-unread, name-unread}
@@ -187,9 +188,11 @@ module _ (image : List ℕ) (w : ℕ) (b : AllBytes image) (e : opening image w 
         go (Err c) q = refl
 
     -- LAW: the image, where a table is written
-    written-same : verdict_of ed a image words bytes ≡ Ok tt → is_tabled p ≡ true → image_after ed a new words bytes ≡ image_after ed a image words bytes
+    written-same : verdict_of ed a image words bytes ≡ Ok tt → WritesTable (nodes_in image) ed → image_after ed a new words bytes ≡ image_after ed a image words bytes
     unfolding image_after
-    written-same q t = let r = accepted ed a image words bytes q in rw (verdict-unread, q, plan-same) (tabled-unread image new o s p (safe r.opens r.own) t)
+    written-same q t =
+        let r = accepted ed a image words bytes q in
+        rw (verdict-unread, q, plan-same) (tabled-unread image new o s p (safe r.opens r.own) (plan-tabled (disc_of image) words bytes ed t r.own))
 
     -- LAW: the image, whatever is written
     after-differ : DifferInUnread (image_after ed a image words bytes) (image_after ed a new words bytes)

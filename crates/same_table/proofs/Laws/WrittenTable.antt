@@ -10,8 +10,10 @@ use Rattle.edit_rules.specs.Change.{Plan, refused, nothing, change, filled}
 use Rattle.edit_rules.specs.Edits.{plan_of, plan_tree, plan_image, image_after}
 use Rattle.edit_rules.proofs.Laws.Puts.{put-length, put-below, field_below}
 use Rattle.ledger.proofs.Laws.Written.{table-written_image, fst-size-written_image}
+use Rattle.edit_rules.proofs.Laws.Accepted.{accepted}
 use Rattle.same_table.specs.Trees.{HasTableOf, is_tabled}
 use Rattle.same_table.specs.Theorem.{WrittenTable}
+use Rattle.same_table.proofs.Laws.Tabled.{plan-tabled}
 use Rattle.same_table.proofs.Laws.SafeChange.{FitsBehind, clip_offset, IsSafePlan, safe-accepted}
 
 -- what goes behind the table leaves table and size
@@ -49,4 +51,5 @@ tabled-plan image (filled k clip p) s t =
 -- THEOREM
 pub written-table : WrittenTable
 unfolding image_after
-written-table ed a image words bytes h b v t = rw v (tabled-plan image (plan_of ed (disc_of image)) (safe-accepted ed a image words bytes h b v) t)
+written-table ed a image words bytes h b v w =
+    rw v (tabled-plan image (plan_of ed (disc_of image)) (safe-accepted ed a image words bytes h b v) (plan-tabled (disc_of image) words bytes ed w (accepted ed a image words bytes v).own))
