@@ -1,10 +1,9 @@
--- Trees that are the same, and images with the table of a tree (RULES, Same tree, same table). Assumes nothing:
--- these are definitions.
-use Rattle.std.specs.Prelude.{ℕ, ◌<◌, ◌≡◌, ◌≢◌, Bool, true, false, List, map, length, slice_index_or}
+-- Trees that are the same, images with the table of a tree, and what of an edit its tree fixes (RULES, Same tree, same
+-- table). Assumes nothing: these are definitions.
+use Rattle.std.specs.Prelude.{ℕ, ◌<◌, ◌≡◌, ◌≢◌, List, map, length, slice_index_or}
 use Rattle.header.specs.Verdicts.{fst_size}
 use Rattle.tree.specs.Table.{Node, file, directory, empty_root, parent_of, encode}
 use Rattle.opened.specs.Opening.{table_of, region_of}
-use Rattle.edit_rules.specs.Change.{Plan, refused, nothing, change, filled}
 use Rattle.edit_rules.specs.Edits.{Edit, insert_file, insert_directory, make_directories, move_file, resize_file, fill_file, rewrite}
 
 -- an entry by itself: its kind and name, and of a file its offset and size; not where a directory ends
@@ -29,17 +28,10 @@ pub record HaveSameTable (a b : List ℕ) : Type 0 where
 
 -- ---- edits
 
--- the edit comes to a table that is written
-abbrev pub is_tabled : Plan → Bool
-is_tabled (refused v) = false
-is_tabled nothing = false
-is_tabled (change k c) = true
-is_tabled (filled k clip p) = is_tabled p
-
 abbrev pub file_size : List Node → ℕ → ℕ
 file_size nodes k = (region_of (slice_index_or nodes k empty_root)).size
 
--- an edit that, if it is accepted, writes a table: any but a resize or a fill to the size that the file has
+-- the edit writes a table where it is accepted: every edit but a resize or a fill to the size that the file has
 abbrev pub WritesTable : List Node → Edit → Type 0
 WritesTable nodes (insert_file p nm) = Unit {0}
 WritesTable nodes (insert_directory p nm) = Unit {0}
@@ -49,8 +41,8 @@ WritesTable nodes (resize_file k n) = n ≢ file_size nodes k
 WritesTable nodes (fill_file k clip) = length clip ≢ file_size nodes k
 WritesTable nodes rewrite = Unit {0}
 
--- the edit writes a table, and its tree is fixed by the old one: every edit but a resize or a fill that makes the file no
--- smaller. To the same size none is written; a growth may look for a place, which depends on where the old table ends
+-- and the old tree and the edit fix the new one: of resizes and fills those to fewer bytes. A growth may look for a
+-- place, by the free space, and so by where the old table ends
 abbrev pub IsFixedByTree : List Node → Edit → Type 0
 IsFixedByTree nodes (insert_file p nm) = Unit {0}
 IsFixedByTree nodes (insert_directory p nm) = Unit {0}

@@ -1,6 +1,6 @@
 -- Of an edit whose tree the old one fixes: what it plans, if its tests pass, is told by the tree and the edit alone; so two images with the same tree
 -- get the same table from it. Assumes nothing.
-use Rattle.std.specs.Prelude.{Ok, Err, ℕ, ◌<◌, ◌≡◌, refl, true, false, List, [], length, get_or, ltb, leb}
+use Rattle.std.specs.Prelude.{Ok, Err, ℕ, ◌≡◌, refl, true, false, List, [], length, get_or, ltb, leb}
 use Rattle.std.proofs.Common.{sym, ap, subst, ◌∙◌, arith, le-leb, ne_eqb}
 use Rattle.refusal.specs.declared.Refusal.TheVariants.{LimitOrMemory, NoSuchEntry}
 use Rattle.refusal.specs.Refusal.{Verdict, refuse, first}
@@ -14,8 +14,9 @@ use Rattle.edit_rules.specs.Change.{Plan, change, filled}
 use Rattle.edit_rules.specs.Edits.{Edit, Account, insert_file, insert_directory, make_directories, move_file, resize_file, fill_file, rewrite, table_change, plan_behind, new_number, insert_verdict, Made, stopped, made, make, plan_made, plan_make_directories, file_verdict, relocation_change, relocate_verdict, plan_move, resize_change, plan_sized, plan_resize, clip_verdict, plan_fill, plan_of, plan_verdict, plan_tree, verdict_of, image_after}
 use Rattle.edit_rules.proofs.Laws.Accepted.{accepted}
 use Rattle.ledger.specs.Runs.{IsPassable}
-use Rattle.same_table.specs.Trees.{HasTableOf, HaveSameTable, is_tabled, file_size, WritesTable, IsFixedByTree}
+use Rattle.same_table.specs.Trees.{HasTableOf, HaveSameTable, file_size, WritesTable, IsFixedByTree}
 use Rattle.same_table.specs.Theorem.{SameTable}
+use Rattle.same_table.proofs.Laws.Tabled.{is_tabled}
 use Rattle.same_table.proofs.Laws.WholeTree.{whole-tree}
 use Rattle.same_table.proofs.Laws.WrittenTable.{written-table}
 
@@ -45,12 +46,12 @@ module _ (d : Disc) (words bytes : ℕ) where
   passed-made (made new k false) e = refl
 
   -- a smaller size asks for no free space
-  smaller : (k n : ℕ) → n < file_size d.nodes k → plan_sized (free_of d) d.nodes k (region_of (get_or d.nodes k empty_root)) n ≡ change k (resize_change d.nodes k (region_of (get_or d.nodes k empty_root)) n)
+  smaller : (k n : ℕ) → IsFixedByTree d.nodes (resize_file k n) → plan_sized (free_of d) d.nodes k (region_of (get_or d.nodes k empty_root)) n ≡ change k (resize_change d.nodes k (region_of (get_or d.nodes k empty_root)) n)
   smaller k n h =
       let size : ℕ = file_size d.nodes k in
       rw (ne_eqb n size (λ e. omega arith), le-leb n size (omega arith))
 
-  resized : (k n : ℕ) → n < file_size d.nodes k → Passes (plan_resize (free_of d) d.nodes k n) → plan_resize (free_of d) d.nodes k n ≡ fixed_plan d.nodes (resize_file k n)
+  resized : (k n : ℕ) → IsFixedByTree d.nodes (resize_file k n) → Passes (plan_resize (free_of d) d.nodes k n) → plan_resize (free_of d) d.nodes k n ≡ fixed_plan d.nodes (resize_file k n)
   unfolding plan_resize
   resized k n h e = (passed-behind (file_verdict d.nodes k) (plan_sized (free_of d) d.nodes k (region_of (get_or d.nodes k empty_root)) n) e).0 ∙ smaller k n h
 

@@ -1,13 +1,13 @@
 -- A second rewrite alters no byte; with as much memory only the record can refuse it, and the one that the first handed back only by its
 -- team's count of edits. Assumes nothing.
-use Rattle.std.specs.Prelude.{Ok, ℕ, ◌+◌, ◌-◌, ◌^◌, ◌<◌, ◌≤◌, ◌≡◌, refl, Bool, true, false, cond, is_err, ◌⊎◌, List, length, set, nat_lt}
+use Rattle.std.specs.Prelude.{Ok, Err, ℕ, ◌+◌, ◌-◌, ◌^◌, ◌<◌, ◌≤◌, ◌≡◌, refl, Bool, true, false, cond, is_err, ◌⊎◌, List, length, set, nat_lt}
 use Rattle.std.proofs.Common.{sym, ap, ◌∙◌, inl, inr, ⊎_elim, arith, le-ltb, append-nil, drop-set-lt}
 use Rattle.std.proofs.lemmas.List.{take-set}
 use Rattle.endian.specs.Bytes.{put, be32_bytes, AllBytes}
 use Rattle.endian.specs.Laws.Stored.{put-none}
 use Rattle.endian.specs.Laws.Stays.{put-span, be32-stays}
 use Rattle.refusal.specs.declared.Refusal.TheVariants.{TotalsOutOfRange}
-use Rattle.refusal.specs.Refusal.{refuse, first}
+use Rattle.refusal.specs.Refusal.{Verdict, refuse, first}
 use Rattle.refusal.specs.Laws.Chains.{first-passed}
 use Rattle.refusal.specs.Laws.Tests.{lt-or-le}
 use Rattle.header.specs.Verdicts.{fst_offset, fst_size, fst_max_size, disc_end, table_end}
@@ -204,7 +204,12 @@ module _ (a : Account) (image : List ℕ) (words bytes : ℕ) (b : AllBytes imag
 
 -- THEOREM
 pub written-stays : WrittenStays
-written-stays image w b e has = image-stays image b (opened image w e b) has
+unfolding image_after
+written-stays image b has a words bytes = go (verdict_of rewrite a image words bytes) refl
+  where
+    go : (v : Verdict) → verdict_of rewrite a image words bytes ≡ v → cond (is_err v) image (written_image (table_change (nodes_in image)) image) ≡ image
+    go (Ok _) q = let r = accepted rewrite a image words bytes q in stays image b (opened image words r.opens b) has
+    go (Err c) q = refl
 
 -- THEOREM
 pub second-rewrite : SecondRewrite

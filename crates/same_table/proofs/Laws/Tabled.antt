@@ -1,18 +1,25 @@
 -- Which accepted edits write a table: all but a resize or a fill to the size that the file has. Assumes nothing.
-use Rattle.std.specs.Prelude.{Result, Ok, Err, ℕ, ◌<◌, ◌≡◌, refl, Bool, true, false, cond, ◌||◌, List, [], length, get_or, ltb, leb}
+use Rattle.std.specs.Prelude.{Result, Ok, Err, ℕ, ◌≡◌, refl, Bool, true, false, cond, ◌||◌, [], length, get_or, ltb, leb}
 use Rattle.std.proofs.Common.{arith, ne_eqb}
 use Rattle.refusal.specs.declared.Refusal.{Refusal}
 use Rattle.refusal.specs.declared.Refusal.TheVariants.{LimitOrMemory, NoSuchEntry}
 use Rattle.refusal.specs.Refusal.{Verdict, refuse, first}
-use Rattle.tree.specs.Table.{Node, empty_root}
+use Rattle.tree.specs.Table.{empty_root}
 use Rattle.tree.specs.Lookup.{components}
 use Rattle.space.specs.declared.region.DiscRegion.{DiscRegion}
 use Rattle.space.specs.MaxRegionSize.{max_region_size}
 use Rattle.space.specs.Allocate.{allocation_of}
 use Rattle.opened.specs.Opening.{region_of, Disc, free_of}
-use Rattle.edit_rules.specs.Change.{Plan, change, nothing}
+use Rattle.edit_rules.specs.Change.{Plan, refused, nothing, change, filled}
 use Rattle.edit_rules.specs.Edits.{Edit, insert_file, insert_directory, make_directories, move_file, resize_file, fill_file, rewrite, plan_behind, insert_verdict, Made, stopped, made, make, plan_made, plan_make_directories, file_verdict, relocate_verdict, plan_move, resize_change, plan_elsewhere, plan_sized, plan_resize, clip_verdict, plan_fill, plan_of, plan_verdict}
-use Rattle.same_table.specs.Trees.{is_tabled, file_size, WritesTable}
+use Rattle.same_table.specs.Trees.{WritesTable}
+
+-- the plan comes to a table that is written
+abbrev pub is_tabled : Plan → Bool
+is_tabled (refused v) = false
+is_tabled nothing = false
+is_tabled (change k c) = true
+is_tabled (filled k clip p) = is_tabled p
 
 module _ (d : Disc) (words bytes : ℕ) where
   abbrev Passes : Plan → Type 0

@@ -23,10 +23,10 @@ use Rattle.ledger.proofs.Laws.Kept.{Kept, opened-kept}
 use Rattle.ledger.proofs.Laws.Sequence.{start}
 use Rattle.ledger.proofs.Laws.Steps.{step-accepted, step}
 use Rattle.steps.proofs.Laws.FreePlace.{span_same}
-use Rattle.same_table.specs.Trees.{is_tabled, WritesTable}
+use Rattle.same_table.specs.Trees.{WritesTable}
 use Rattle.same_table.specs.Unread.{DifferInUnread}
 use Rattle.same_table.specs.Theorem.{EditAlike, NoInfluence, ListAlike, NoInfluenceAlong}
-use Rattle.same_table.proofs.Laws.Tabled.{plan-tabled}
+use Rattle.same_table.proofs.Laws.Tabled.{is_tabled, plan-tabled}
 use Rattle.same_table.proofs.Laws.SafeChange.{SafeChange, clip_offset, IsSafePlan, safe-plan}
 use Rattle.same_table.proofs.Laws.UnreadImage.{SameButUnread, same-but-unread, start-same, size_same, tree-unread, used-unread, free-unread, opening-unread, disc-unread, open-alike, put-alike, put-unread, put-differ}
 use Rattle.same_table.proofs.Laws.UnreadFields.{parent-unread, name-unread}
@@ -208,11 +208,12 @@ module _ (image : List ℕ) (w : ℕ) (b : AllBytes image) (e : opening image w 
 
 -- THEOREM: what stands there has no influence
 pub no-influence : NoInfluence
-no-influence image w b e = (
-  λ new d. (open-alike image new (opened image w e b) (same-but-unread image w b e new d), edit-alike image w b e new d),
-  parent-unread image w b e,
-  name-unread image w b e,
-)
+no-influence image w b e = record {
+  opens = λ new d. open-alike image new (opened image w e b) (same-but-unread image w b e new d);
+  edits = edit-alike image w b e;
+  parent = parent-unread image w b e;
+  root-name = name-unread image w b e;
+}
 
 -- ---- a list of calls
 
@@ -230,4 +231,9 @@ along-unread w (c ∷ calls) image new l h k d =
 
 -- THEOREM: nor along any list of them
 pub no-influence-along : NoInfluenceAlong
-no-influence-along image new w₀ w calls b e h a d = along-unread w calls image new (first_ledger image) a (start image w₀ w h b e) d
+no-influence-along image new w₀ w calls b e a d =
+    along-unread (w₀ + w) calls image new (first_ledger image) (more calls a) (start image w₀ (w₀ + w) (omega arith) b e) d
+  where
+    more : (cs : List Call) → AllWithin w cs → AllWithin (w₀ + w) cs
+    more [] h = tt
+    more (c ∷ cs) h = (omega (arith, h.0), h.1, more cs h.2)

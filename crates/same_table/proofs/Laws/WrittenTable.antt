@@ -11,9 +11,9 @@ use Rattle.edit_rules.specs.Edits.{plan_of, plan_tree, plan_image, image_after}
 use Rattle.edit_rules.proofs.Laws.Puts.{put-length, put-below, field_below}
 use Rattle.ledger.proofs.Laws.Written.{table-written_image, fst-size-written_image}
 use Rattle.edit_rules.proofs.Laws.Accepted.{accepted}
-use Rattle.same_table.specs.Trees.{HasTableOf, is_tabled}
+use Rattle.same_table.specs.Trees.{HasTableOf}
 use Rattle.same_table.specs.Theorem.{WrittenTable}
-use Rattle.same_table.proofs.Laws.Tabled.{plan-tabled}
+use Rattle.same_table.proofs.Laws.Tabled.{is_tabled, plan-tabled}
 use Rattle.same_table.proofs.Laws.SafeChange.{FitsBehind, clip_offset, IsSafePlan, safe-accepted}
 
 -- what goes behind the table leaves table and size
