@@ -165,7 +165,7 @@ not-beside s =
     let e : ◌≡◌ {A = ℕ} 2 1 = rw (at-twins.nodes, at-beside.tree-is) at (s.nesting 3 (rw at-twins.nodes (omega arith))) in
     omega arith
 
--- ---- what an edit answers with so many words and bytes, and what image and record it leaves
+-- ---- what an edit answers that is lent the master's words and 0x37 bytes, and what image and record it leaves
 
 abbrev answer : Edit → Account → List ℕ → Verdict
 answer ed a image = verdict_of ed a image master_words 0x37
@@ -454,14 +454,14 @@ keeping kept = account (record { used = 0; largest = 0; teams = teams (team 0 0 
 abbrev over : Account
 over = account (record { used = 0; largest = 0; teams = replicate 16 (team 0 0 1 0) }) 3
 
--- with the record that the first one, of a record with so many edits, handed back
+-- the record that the first one handed back, where the team had made so many edits before
 abbrev again_of : ℕ → Account
 again_of edits = account (back rewrite (own_with edits twins) twins) 0
 
 pub record Again : Type 0 where
   -- no byte is another, whoever rewrites it, and whatever is lent
   pub unaltered : (a : Account) (words bytes : ℕ) → image_after rewrite a plain words bytes ≡ plain
-  -- it is accepted, with as much memory, and with more
+  -- with that record it is accepted, with as much memory, and with more
   pub accepted : answer rewrite (again_of 0) plain ≡ Ok tt
   pub with-more : verdict_of rewrite (again_of 0) plain 20000 0x60 ≡ Ok tt
   -- but 25 where the count of the team's edits is the highest
