@@ -6,10 +6,11 @@ use Rattle.refusal.specs.declared.Refusal.TheVariants.{TotalsOutOfRange}
 use Rattle.refusal.specs.Refusal.{refuse, first}
 use Rattle.header.specs.Verdicts.{fst_offset}
 use Rattle.tree.specs.Table.{kind, count}
+use Rattle.totals.specs.declared.Totals.{Totals}
 use Rattle.totals.specs.Totals.{team_of, team_verdict, totals_verdict}
 use Rattle.opened.specs.Opening.{table_of, nodes_in, opening, disc_of}
 use Rattle.edit_rules.specs.Edits.{Edit, Account, account, rewrite, plan_of, plan_tree, space_change, verdict_of, image_after, totals_after}
-use Rattle.ledger.specs.Runs.{IsPassable}
+use Rattle.ledger.specs.Runs.{Call, image_after_all, reports_of, totals_after_all, IsPassable, AllWithin}
 use Rattle.edit.specs.TableAnew.{table_anew, anew_verdict}
 use Rattle.same_table.specs.Trees.{IsSameTree, HasTableOf, HaveSameTable, is_tabled, IsFixedByTree}
 use Rattle.same_table.specs.Unread.{DifferInUnread}
@@ -77,12 +78,13 @@ pub record OpenAlike (image new : List ℕ) : Type 0 where
   pub opens : (w : ℕ) → opening new w ≡ opening image w
   pub disc : disc_of new ≡ disc_of image
 
--- the edit has the same verdict of both and hands back the same record; and one that writes a table leaves the same image,
--- every byte
+-- the edit has the same verdict of both and hands back the same record; one that writes a table leaves the same image, every
+-- byte, and any other two that differ as before
 pub record EditAlike (ed : Edit) (a : Account) (image new : List ℕ) (words bytes : ℕ) : Type 0 where
   pub verdict : verdict_of ed a new words bytes ≡ verdict_of ed a image words bytes
   pub totals : totals_after ed a new words bytes ≡ totals_after ed a image words bytes
   pub written : verdict_of ed a image words bytes ≡ Ok tt → is_tabled (plan_of ed (disc_of image)) ≡ true → image_after ed a new words bytes ≡ image_after ed a image words bytes
+  pub differ : DifferInUnread (image_after ed a image words bytes) (image_after ed a new words bytes)
 
 -- THEOREM: of an image that opens: whatever stands in the bytes that no call reads; such are four bytes put over the stored
 -- parent of any directory, the root's too, and three over the root's name offset
@@ -92,3 +94,15 @@ NoInfluence =
     ((new : List ℕ) → DifferInUnread image new → OpenAlike image new × ((ed : Edit) (a : Account) (words bytes : ℕ) → IsPassable ed → EditAlike ed a image new words bytes))
     × ((k : ℕ) (bs : List ℕ) → k < count (table_of image) → kind (table_of image) k ≡ 1 → length bs ≡ 4 → DifferInUnread image (put image (fst_offset image + (12 * k + 4)) bs))
     × ((bs : List ℕ) → length bs ≡ 3 → DifferInUnread image (put image (fst_offset image + 1) bs))
+
+-- what the ledger is told of each call, the record handed on, and the images at last
+pub record ListAlike (calls : List Call) (image new : List ℕ) : Type 0 where
+  pub reports : reports_of calls new ≡ reports_of calls image
+  pub handed-on : (t : Totals) → totals_after_all t calls new ≡ totals_after_all t calls image
+  pub at-last : DifferInUnread (image_after_all calls image) (image_after_all calls new)
+
+-- THEOREM: so along any list of calls
+abbrev pub NoInfluenceAlong : Type 0
+NoInfluenceAlong =
+    (image new : List ℕ) (w₀ w : ℕ) (calls : List Call) → AllBytes image → opening image w₀ ≡ Ok tt → w₀ ≤ w → AllWithin w calls → DifferInUnread image new →
+    ListAlike calls image new

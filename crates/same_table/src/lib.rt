@@ -4,7 +4,8 @@
 #![tactic(auto)]
 
 ghost use Rattle.same_table.specs.Theorem.{WholeTree, WrittenTable, SameTable, SameTree};
-ghost use Rattle.same_table.specs.Theorem.{SecondRewrite, WrittenStays, NoInfluence};
+ghost use Rattle.same_table.specs.Theorem.{SecondRewrite, WrittenStays};
+ghost use Rattle.same_table.specs.Theorem.{NoInfluence, NoInfluenceAlong};
 
 // Names, order, kinds, nesting, offsets and sizes are the whole tree.
 pub fn whole_tree()
@@ -39,4 +40,9 @@ pub fn written_stays()
 // No stored parent has an influence on an edit, nor has the root's name offset.
 pub fn no_influence()
     ensures { NoInfluence }
+{}
+
+// Nor along any list of edits.
+pub fn no_influence_along()
+    ensures { NoInfluenceAlong }
 {}

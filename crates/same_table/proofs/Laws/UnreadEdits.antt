@@ -1,7 +1,7 @@
 -- What stands in the bytes that no call reads has no influence on an edit: the verdict and the record are the same, and where a table is written so is
 -- the whole image. Assumes nothing.
 use Rattle.std.specs.Prelude.{Ok, Err, is_err}
-use Rattle.std.specs.Prelude.{ℕ, ◌+◌, ◌-◌, ◌<◌, ◌≤◌, ◌≡◌, refl, Bool, true, false, cond, List, length, get_or, replicate}
+use Rattle.std.specs.Prelude.{ℕ, ◌+◌, ◌-◌, ◌<◌, ◌≤◌, ◌≡◌, refl, Bool, true, false, cond, List, [], ◌∷◌, length, get_or, slice_index, replicate}
 use Rattle.std.proofs.Common.{sym, ap, ◌∙◌, ⊎_elim, inl, inr, arith, true≢false, ext_get_or, length-append}
 use Rattle.std.proofs.lemmas.List.{length-replicate}
 use Rattle.endian.specs.Bytes.{put, span, AllBytes}
@@ -16,19 +16,22 @@ use Rattle.edit_rules.specs.Change.{Change, padded_table, image_with_table, copi
 use Rattle.edit_rules.specs.Edits.{Edit, Account, plan_of, plan_verdict, plan_image, space_change, counted_verdict, verdict_of, image_after, totals_after}
 use Rattle.edit_rules.proofs.Laws.Accepted.{accepted}
 use Rattle.edit_rules.proofs.Laws.Puts.{Fits, put-length, span-length}
-use Rattle.ledger.specs.Ledger.{first_ledger, ledger_with}
-use Rattle.ledger.specs.Runs.{IsPassable}
+use Rattle.ledger.specs.Ledger.{Ledger, first_ledger, ledger_with}
+use Rattle.ledger.specs.Runs.{Call, image_after_all, reports_of, totals_after_all, IsPassable, AllWithin}
 use Rattle.ledger.proofs.Laws.Opened.{Opened, opened}
-use Rattle.ledger.proofs.Laws.Kept.{opened-kept}
+use Rattle.ledger.proofs.Laws.Kept.{Kept, opened-kept}
 use Rattle.ledger.proofs.Laws.Sequence.{start}
-use Rattle.ledger.proofs.Laws.Steps.{step-accepted}
+use Rattle.ledger.proofs.Laws.Steps.{step-accepted, step}
 use Rattle.steps.proofs.Laws.FreePlace.{span_same}
 use Rattle.same_table.specs.Trees.{is_tabled}
 use Rattle.same_table.specs.Unread.{DifferInUnread}
-use Rattle.same_table.specs.Theorem.{EditAlike, NoInfluence}
+use Rattle.same_table.specs.Theorem.{EditAlike, NoInfluence, ListAlike, NoInfluenceAlong}
 use Rattle.same_table.proofs.Laws.SafeChange.{SafeChange, clip_offset, IsSafePlan, safe-plan}
-use Rattle.same_table.proofs.Laws.UnreadImage.{SameButUnread, same-but-unread, start-same, size_same, tree-unread, used-unread, free-unread, opening-unread, disc-unread, open-alike, put-alike, put-unread}
+use Rattle.same_table.proofs.Laws.UnreadImage.{SameButUnread, same-but-unread, start-same, size_same, tree-unread, used-unread, free-unread, opening-unread, disc-unread, open-alike, put-alike, put-unread, put-differ}
 use Rattle.same_table.proofs.Laws.UnreadFields.{parent-unread, name-unread}
+
+same-differ : (image new : List ℕ) → new ≡ image → DifferInUnread image new
+same-differ image new e = record { len = ap length e; same = λ i h. ap (λ (s : List ℕ). slice_index s i) e }
 
 module _ (image new : List ℕ) (o : Opened image) (s : SameButUnread image new) where
   -- ---- a change: the copy comes from behind the table, and the new table covers the old one
@@ -100,6 +103,19 @@ module _ (image new : List ℕ) (o : Opened image) (s : SameButUnread image new)
   untabled-unread nothing q t = s
   untabled-unread (change k c) q t = absurd (true≢false t)
   untabled-unread (filled k clip p) q t = rw (tree-unread image new o s) (put-unread (plan_image p image) (plan_image p new) (untabled-unread p q.0 t) (clip_offset p image k) clip q.1)
+
+  differ-still : DifferInUnread image new → (p : Plan) → IsSafePlan image p → is_tabled p ≡ false → DifferInUnread (plan_image p image) (plan_image p new)
+  differ-still d (refused v) q t = d
+  differ-still d nothing q t = d
+  differ-still d (change k c) q t = absurd (true≢false t)
+  differ-still d (filled k clip p) q t = rw (tree-unread image new o s) (put-differ (plan_image p image) (plan_image p new) (differ-still d p q.0 t) (clip_offset p image k) clip q.1)
+
+  planned-differ : DifferInUnread image new → (p : Plan) → IsSafePlan image p → DifferInUnread (plan_image p image) (plan_image p new)
+  planned-differ d p q = go (is_tabled p) refl
+    where
+      go : (b : Bool) → is_tabled p ≡ b → DifferInUnread (plan_image p image) (plan_image p new)
+      go true t = same-differ (plan_image p image) (plan_image p new) (tabled-unread p q t)
+      go false t = differ-still d p q t
 
   -- what the plan comes to of both
   record PlannedAlike (p : Plan) : Type 0 where
@@ -175,8 +191,17 @@ module _ (image : List ℕ) (w : ℕ) (b : AllBytes image) (e : opening image w 
     unfolding image_after
     written-same q t = let r = accepted ed a image words bytes q in rw (verdict-unread, q, plan-same) (tabled-unread image new o s p (safe r.opens r.own) t)
 
+    -- LAW: the image, whatever is written
+    after-differ : DifferInUnread (image_after ed a image words bytes) (image_after ed a new words bytes)
+    unfolding image_after
+    after-differ = rw (verdict-unread, plan-same) (go (verdict_of ed a image words bytes) refl)
+      where
+        go : (v : Verdict) → verdict_of ed a image words bytes ≡ v → DifferInUnread (cond (is_err v) image (plan_image p image)) (cond (is_err v) new (plan_image p new))
+        go (Ok _) q = let r = accepted ed a image words bytes q in planned-differ image new o s d p (safe r.opens r.own)
+        go (Err c) q = d
+
     pub edit-alike : EditAlike ed a image new words bytes
-    edit-alike = record { verdict = verdict-unread; totals = totals-unread; written = written-same }
+    edit-alike = record { verdict = verdict-unread; totals = totals-unread; written = written-same; differ = after-differ }
 
 -- THEOREM: what stands there has no influence
 pub no-influence : NoInfluence
@@ -185,3 +210,21 @@ no-influence image w b e = (
   parent-unread image w b e,
   name-unread image w b e,
 )
+
+-- ---- a list of calls
+
+along-unread : (w : ℕ) (calls : List Call) (image new : List ℕ) (l : Ledger) → AllWithin w calls → Kept w image l → DifferInUnread image new → ListAlike calls image new
+unfolding image_after_all reports_of totals_after_all
+along-unread w [] image new l h k d = record { reports = refl; handed-on = λ t. refl; at-last = d }
+along-unread w (c ∷ calls) image new l h k d =
+    let e : EditAlike c.edit c.account image new c.words c.bytes = edit-alike image w k.bytes k.opens new d c.edit c.account c.words c.bytes h.1 in
+    let r = along-unread w calls (image_after c.edit c.account image c.words c.bytes) (image_after c.edit c.account new c.words c.bytes) _ h.2 (step w image l k c.words c.bytes h.0 c.account c.edit h.1) e.differ in
+    record {
+      reports = rw (e.verdict, r.reports);
+      handed-on = λ t. rw e.totals (r.handed-on (totals_after c.edit c.account image c.words c.bytes));
+      at-last = r.at-last;
+    }
+
+-- THEOREM: nor along any list of them
+pub no-influence-along : NoInfluenceAlong
+no-influence-along image new w₀ w calls b e h a d = along-unread w calls image new (first_ledger image) a (start image w₀ w h b e) d

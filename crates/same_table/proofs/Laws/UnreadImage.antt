@@ -228,3 +228,11 @@ module _ (image new : List ℕ) (s : SameButUnread image new) (at : ℕ) (bs : L
     same = λ i h. put-alike image new at bs p.fits s.len i (s.same i (rw (behind_start image at bs p, behind_size image at bs p) at h));
     table = rw (behind_table image at bs p, behind_table new at bs fits-new) s.table;
   }
+
+module _ (image new : List ℕ) (d : DifferInUnread image new) (at : ℕ) (bs : List ℕ) (p : FitsBehind image at bs) where
+  -- LAW: and differ in no others
+  pub put-differ : DifferInUnread (put image at bs) (put new at bs)
+  put-differ = record {
+    len = put-length new at bs (rw d.len p.fits) ∙ d.len ∙ sym (put-length image at bs p.fits);
+    same = λ i h. put-alike image new at bs p.fits d.len i (d.same i (rw (behind_start image at bs p, behind_table image at bs p) at h));
+  }
