@@ -20,6 +20,7 @@ pub mod Planned
 pub mod Programs
 pub mod Records
 pub mod SameTables
+pub mod SameTablesAlong
 pub mod SameTablesApplied
 pub mod Steps
 pub mod StepsApplied

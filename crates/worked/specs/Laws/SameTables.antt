@@ -1,7 +1,8 @@
 -- One tree in tables that share the texts of its names in five ways, and in tables that store false parents: the images, written out from the
 -- layout, what each of them reads as, by computing, and the disc that they mean. Assumes nothing.
 use Rattle.std.specs.Prelude.{None, Ok, Err}
-use Rattle.std.specs.Prelude.{ℕ, ◌+◌, ◌-◌, ◌*◌, ◌≡◌, refl, true, false, List, [], ◌∷◌, ◌++◌, map, length, slice_index}
+use Rattle.std.specs.Prelude.{ℕ, ◌+◌, ◌-◌, ◌*◌, ◌≡◌, refl, true, false, List, [], ◌∷◌, ◌++◌, map, length, replicate, slice_index}
+use Rattle.std.proofs.Common.{◌∙◌}
 use Rattle.endian.specs.Bytes.{be24, be32, be32_bytes, put, AllBytes}
 use Rattle.refusal.specs.declared.Refusal.TheVariants.{LimitOrMemory}
 use Rattle.header.specs.Fields.{fields, fst_offset_field, fst_size_field}
@@ -14,7 +15,7 @@ use Rattle.space.specs.Layout.{are_disjoint, is_disjoint_from_all, are_pairwise_
 use Rattle.space.specs.Free.{runs, free_regions}
 use Rattle.executable.specs.Program.{program_of, program_in, own_region}
 use Rattle.opened.specs.Opening.{table_of, nodes_in, opening, regions_behind_table, region_of, used_in, free_space_of, used_of, layout_verdict, Disc, disc_of}
-use Rattle.same_table.specs.Unread.{is_unread_in}
+use Rattle.same_table.specs.Unread.{is_unread_in, DifferInUnread}
 use Rattle.worked.specs.Image.{master, master_words}
 use Rattle.worked.specs.Laws.Marked.{at}
 use Rattle.worked.specs.Laws.Applied.{bytes_only, bytes-only}
@@ -108,6 +109,24 @@ beside = put twins 0x460 (be32_bytes 3)
 unfoldable pub plain : List ℕ
 plain = with_table 0x440 0x37 one_table
 
+-- the twins, where the file holds nothing but 7s; and what a move of it to 0x700 leaves of them
+abbrev pub all_7 : List ℕ
+all_7 = replicate 0x100 7
+
+abbrev pub table_moved : List ℕ
+table_moved =
+    1 ∷ 0 ∷ 0 ∷ 0 ∷ 0 ∷ 0 ∷ 0 ∷ 0 ∷ 0 ∷ 0 ∷ 0 ∷ 4 ∷
+    1 ∷ 0 ∷ 0 ∷ 0 ∷ 0 ∷ 0 ∷ 0 ∷ 0 ∷ 0 ∷ 0 ∷ 0 ∷ 4 ∷
+    1 ∷ 0 ∷ 0 ∷ 2 ∷ 0 ∷ 0 ∷ 0 ∷ 1 ∷ 0 ∷ 0 ∷ 0 ∷ 4 ∷
+    0 ∷ 0 ∷ 0 ∷ 4 ∷ 0 ∷ 0 ∷ 7 ∷ 0 ∷ 0 ∷ 0 ∷ 1 ∷ 0 ∷
+    0x61 ∷ 0 ∷ 0x61 ∷ 0 ∷ 0x62 ∷ 0x61 ∷ 0 ∷ []
+
+unfoldable pub sevens : List ℕ
+sevens = put twins 0x500 all_7
+
+unfoldable pub sevens_moved : List ℕ
+sevens_moved = put (with_table 0x440 0x37 table_moved) 0x700 all_7
+
 -- ---- what each image reads as
 
 -- an image of the tree, with a table of n bytes at o
@@ -158,6 +177,10 @@ pub at-plain : Reads 0x440 0x37 plain
 unfolding plain master put opening layout_verdict header_verdict all_fields_verdict field_verdict fields bounds_verdict table_of check nodes_in nodes_of nodes_from node_at name_at count entries_verdict entry_verdict is_unended walk name_verdict next_verdict dirs_open_at is_plain is_safe be24 be32 used_in regions_behind_table program_of program_in own_region nonempty_regions are_disjoint_below are_pairwise_disjoint is_disjoint_from_all are_disjoint are_below units bytes_only
 at-plain = record { bytes = bytes-only plain refl; opens = refl; nodes = refl; program = refl; header = (refl, refl, refl, refl) }
 
+pub at-sevens : Reads 0x440 0x35 sevens
+unfolding sevens twins master put opening layout_verdict header_verdict all_fields_verdict field_verdict fields bounds_verdict table_of check nodes_in nodes_of nodes_from node_at name_at count entries_verdict entry_verdict is_unended walk name_verdict next_verdict dirs_open_at is_plain is_safe be24 be32 used_in regions_behind_table program_of program_in own_region nonempty_regions are_disjoint_below are_pairwise_disjoint is_disjoint_from_all are_disjoint are_below units bytes_only
+at-sevens = record { bytes = bytes-only sevens refl; opens = refl; nodes = refl; program = refl; header = (refl, refl, refl, refl) }
+
 -- an image of another tree
 pub record Other (nodes : List Node) (image : List ℕ) : Type 0 where
   pub bytes : AllBytes image
@@ -171,6 +194,11 @@ at-elsewhere = record { bytes = bytes-only elsewhere refl; opens = refl; tree-is
 pub at-beside : Other tree_beside beside
 unfolding beside twins master put opening layout_verdict header_verdict all_fields_verdict field_verdict fields bounds_verdict table_of check nodes_in nodes_of nodes_from node_at name_at count entries_verdict entry_verdict is_unended walk name_verdict next_verdict dirs_open_at is_plain is_safe be24 be32 used_in regions_behind_table program_of program_in own_region nonempty_regions are_disjoint_below are_pairwise_disjoint is_disjoint_from_all are_disjoint are_below units bytes_only
 at-beside = record { bytes = bytes-only beside refl; opens = refl; tree-is = refl }
+
+-- the file lies elsewhere in this one too
+pub at-sevens-moved : (used_of sevens_moved ≡ 1399) × (free_space_of sevens_moved ≡ at 0x477 0x289 ∷ at 0x800 0x1800 ∷ [])
+unfolding sevens_moved master put table_of nodes_in nodes_of nodes_from node_at name_at count be24 be32 used_in used_of total_size regions_behind_table program_of program_in own_region free_regions runs is_used nonempty_regions
+at-sevens-moved = (refl, refl)
 
 -- ---- what the tables store, no two the same
 
@@ -212,35 +240,62 @@ pub with_words : (opening twins 24 ≡ Ok tt) × (opening twins 23 ≡ Err Limit
 unfolding twins master put opening layout_verdict header_verdict all_fields_verdict field_verdict fields bounds_verdict table_of check nodes_in nodes_of nodes_from node_at name_at count entries_verdict entry_verdict is_unended walk name_verdict next_verdict dirs_open_at is_plain is_safe be24 be32 used_in regions_behind_table program_of program_in own_region nonempty_regions are_disjoint_below are_pairwise_disjoint is_disjoint_from_all are_disjoint are_below units
 with_words = (refl, refl)
 
--- single bytes of them: of the root's next, of a text, and of the file
-pub bytes_there : (length twins ≡ 0x2000) × (slice_index twins 0x44B ≡ 4) × (slice_index twins 0x470 ≡ 0x61) × (slice_index twins 0x500 ≡ 0)
-unfolding twins master put
-bytes_there = (refl, refl, refl, refl)
-
--- which a call may read, as it may the outer `a`'s name offset, and the file's offset; no call reads what the root stores as its name offset, nor
--- what it and the inner `a` store as their parents
-pub record ReadAndUnread : Type 0 where
-  pub next : is_unread_in twins 0x44B ≡ false
-  pub text : is_unread_in twins 0x470 ≡ false
-  pub outside : is_unread_in twins 0x500 ≡ false
-  pub name-offset : is_unread_in twins 0x44F ≡ false
-  pub offset : is_unread_in twins 0x468 ≡ false
+-- what no call reads of them: of what the root stores as its name offset and its parent, and the inner `a` as its parent, the first byte and the
+-- last. The outer `a`'s name offset and the file's offset are read
+pub record Unread : Type 0 where
   pub root-name : (is_unread_in twins 0x441 ≡ true) × (is_unread_in twins 0x443 ≡ true)
   pub root-parent : (is_unread_in twins 0x444 ≡ true) × (is_unread_in twins 0x447 ≡ true)
   pub parent : (is_unread_in twins 0x45C ≡ true) × (is_unread_in twins 0x45F ≡ true)
+  pub kinds : (is_unread_in twins 0x440 ≡ false) × (is_unread_in twins 0x458 ≡ false)
+  pub nexts : (is_unread_in twins 0x448 ≡ false) × (is_unread_in twins 0x460 ≡ false)
+  pub name-offset : (is_unread_in twins 0x44D ≡ false) × (is_unread_in twins 0x44F ≡ false)
+  pub offset : (is_unread_in twins 0x468 ≡ false) × (is_unread_in twins 0x46B ≡ false)
 
-pub read-and-unread : ReadAndUnread
+pub unread : Unread
 unfolding twins master put table_of count be32
-read-and-unread = record {
-  next = refl;
-  text = refl;
-  outside = refl;
-  name-offset = refl;
-  offset = refl;
+unread = record {
   root-name = (refl, refl);
   root-parent = (refl, refl);
   parent = (refl, refl);
+  kinds = (refl, refl);
+  nexts = (refl, refl);
+  name-offset = (refl, refl);
+  offset = (refl, refl);
 }
+
+-- byte i is b, and a call may read it
+pub record HasByte (image : List ℕ) (i b : ℕ) : Type 0 where
+  pub is-read : is_unread_in image i ≡ false
+  pub is : slice_index image i ≡ b
+
+pub byte-of : {image new : List ℕ} {i b : ℕ} → DifferInUnread image new → HasByte image i b → slice_index new i ≡ b
+byte-of {i = i} d h = d.same i h.is-read ∙ h.is
+
+-- of the root's next, of a text and of the file; the file where it holds 7s; that and its offset where it lies elsewhere then
+pub record Bytes : Type 0 where
+  pub next : HasByte twins 0x44B 4
+  pub text : HasByte twins 0x470 0x61
+  pub file : HasByte twins 0x500 0
+  pub next-then : HasByte sevens 0x44B 4
+  pub filled : HasByte sevens 0x500 7
+  pub offset : HasByte sevens_moved 0x46A 7
+  pub moved : HasByte sevens_moved 0x700 7
+
+pub bytes : Bytes
+unfolding sevens sevens_moved twins master put table_of count be32
+bytes = record {
+  next = record { is-read = refl; is = refl };
+  text = record { is-read = refl; is = refl };
+  file = record { is-read = refl; is = refl };
+  next-then = record { is-read = refl; is = refl };
+  filled = record { is-read = refl; is = refl };
+  offset = record { is-read = refl; is = refl };
+  moved = record { is-read = refl; is = refl };
+}
+
+pub twins-long : length twins ≡ 0x2000
+unfolding twins master put
+twins-long = refl
 
 -- ---- the disc that an image of the tree means
 

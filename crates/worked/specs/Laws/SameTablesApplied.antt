@@ -42,7 +42,7 @@ use Rattle.worked.specs.Image.{master, master_words}
 use Rattle.worked.specs.Laws.Handed.{most, team, teams, teams_after, own}
 use Rattle.worked.specs.Laws.Planned.{to}
 use Rattle.worked.specs.Laws.Applied.{bytes_only, bytes-only}
-use Rattle.worked.specs.Laws.SameTables.{tree_at, tree, tree_beside, one_table, encoded, unshared, twins, tail, one_text, slack, false_parent, root_in_7, in_itself, in_none, root_named, elsewhere, beside, plain, Reads, at-unshared, at-twins, at-tail, at-one-text, at-slack, at-root-in-7, at-in-itself, at-in-none, at-root-named, at-plain, at-elsewhere, at-beside, kinds, with_words, bytes_there, read-and-unread, disc, Around, around-37, around-35, around-33, around-slack, meant, free, used}
+use Rattle.worked.specs.Laws.SameTables.{tree_at, tree, tree_beside, one_table, encoded, unshared, twins, tail, one_text, slack, false_parent, root_in_7, in_itself, in_none, root_named, elsewhere, beside, plain, table_moved, Reads, at-unshared, at-twins, at-tail, at-one-text, at-slack, at-root-in-7, at-in-itself, at-in-none, at-root-named, at-plain, at-elsewhere, at-beside, kinds, with_words, byte-of, bytes, twins-long, disc, Around, around-37, around-35, around-33, around-slack, meant, free, used}
 
 -- ---- which edits such images accept
 
@@ -55,7 +55,7 @@ unfolding remainders
 unbounded image edits h = record { used = refl; team = omega arith; taken = omega arith; limit = refl; count = h; others = refl }
 
 -- on the disc that is meant the edit passes its own tests
-abbrev Passes : ℕ → ℕ → Edit → ℕ → ℕ → Type 0
+abbrev pub Passes : ℕ → ℕ → Edit → ℕ → ℕ → Type 0
 Passes o n ed words bytes = plan_verdict (plan_of ed (disc o n)) (disc o n) words bytes ≡ Ok tt
 
 module _ {o n : ℕ} {image : List ℕ} (r : Reads o n image) (around : Around o n) (edits : ℕ) (h : edits + 1 < 2 ^ 32) where
@@ -92,7 +92,7 @@ insert_c = insert_directory 2 (0x63 ∷ [])
 abbrev make_c_d : Edit
 make_c_d = make_directories 0 (0x61 ∷ 0x2F ∷ 0x63 ∷ 0x2F ∷ 0x64 ∷ [])
 
-abbrev move : Edit
+abbrev pub move : Edit
 move = move_file 3 0x700
 
 abbrev shrink : Edit
@@ -197,22 +197,14 @@ module _ (edits : ℕ) (h : edits + 1 < 2 ^ 32) where
   unfolding totals_after moved_totals total_size largest_size
   rewrite-counted = rw (rewritten, at-twins.nodes, rewrite-writes, used at-twins around-35, used at-plain around-37, free at-plain around-37)
 
--- a move of their file: the table where it lies at 0x700
+-- a move of their file
 
-abbrev table_moved : List ℕ
-table_moved =
-    1 ∷ 0 ∷ 0 ∷ 0 ∷ 0 ∷ 0 ∷ 0 ∷ 0 ∷ 0 ∷ 0 ∷ 0 ∷ 4 ∷
-    1 ∷ 0 ∷ 0 ∷ 0 ∷ 0 ∷ 0 ∷ 0 ∷ 0 ∷ 0 ∷ 0 ∷ 0 ∷ 4 ∷
-    1 ∷ 0 ∷ 0 ∷ 2 ∷ 0 ∷ 0 ∷ 0 ∷ 1 ∷ 0 ∷ 0 ∷ 0 ∷ 4 ∷
-    0 ∷ 0 ∷ 0 ∷ 4 ∷ 0 ∷ 0 ∷ 7 ∷ 0 ∷ 0 ∷ 0 ∷ 1 ∷ 0 ∷
-    0x61 ∷ 0 ∷ 0x61 ∷ 0 ∷ 0x62 ∷ 0x61 ∷ 0 ∷ []
-
-record Moves : Type 0 where
+pub record Moves : Type 0 where
   pub passes : Passes 0x440 0x35 move master_words 0x37
   pub tabled : is_tabled (plan_of move (disc 0x440 0x35)) ≡ true
   pub table : encode (plan_tree (plan_of move (disc 0x440 0x35)) tree) ≡ table_moved
 
-moves : Moves
+pub moves : Moves
 unfolding table_verdict place_verdict limits is_shallow is_shallow_from dirs_open_at texts_of encode entries_bytes parent_of parent_below max_size_from size_beside_free plan_move set_place
 moves = let f = around-35.free in record { passes = rw (f, f); tabled = rw f; table = rw f }
 
@@ -244,7 +236,7 @@ resize-leaves new d v = rw (v, resize-plan new d)
 
 -- a move into the header is refused
 
-abbrev move_low : Edit
+abbrev pub move_low : Edit
 move_low = move_file 3 0x400
 
 low-refused : plan_verdict (plan_of move_low (disc 0x440 0x35)) (disc 0x440 0x35) master_words 0x37 ≡ Err NotEnoughSpace
@@ -512,15 +504,15 @@ again =
 -- ---- what no call reads
 
 -- the images that store what is false differ from the twins in such bytes alone
-record Unread : Type 0 where
+pub record DifferInThat : Type 0 where
   pub root-in-7 : DifferInUnread twins root_in_7
   pub in-itself : DifferInUnread twins in_itself
   pub in-none : DifferInUnread twins in_none
   pub root-named : DifferInUnread twins root_named
 
-unread : Unread
+pub differ : DifferInThat
 unfolding false_parent root_named
-unread =
+differ =
     let n = no-influence twins master_words at-twins.bytes at-twins.opens in
     let o = at-twins.header.0 in
     record {
@@ -565,12 +557,7 @@ alike new u =
     let i = of-move.written moved t in
     let h = has-table at-twins around-35 move (omega arith) (own twins) master_words 0x37 moved moves.tabled in
     record {
-      bytes = (
-        u.len ∙ bytes_there.0,
-        u.same 0x44B read-and-unread.next ∙ bytes_there.1,
-        u.same 0x470 read-and-unread.text ∙ bytes_there.2,
-        u.same 0x500 read-and-unread.outside ∙ bytes_there.3,
-      );
+      bytes = (u.len ∙ twins-long, byte-of u bytes.next, byte-of u bytes.text, byte-of u bytes.file);
       opens = (n.0.opens master_words ∙ at-twins.opens, n.0.opens 24 ∙ with_words.0, n.0.opens 23 ∙ with_words.1);
       disc = d;
       rewritten = of-rewrite.verdict ∙ rewritten 0 (omega arith);
@@ -594,8 +581,8 @@ pub record Alike : Type 0 where
 
 pub all-alike : Alike
 all-alike = record {
-  root-in-7 = alike root_in_7 unread.root-in-7;
-  in-itself = alike in_itself unread.in-itself;
-  in-none = alike in_none unread.in-none;
-  root-named = alike root_named unread.root-named;
+  root-in-7 = alike root_in_7 differ.root-in-7;
+  in-itself = alike in_itself differ.in-itself;
+  in-none = alike in_none differ.in-none;
+  root-named = alike root_named differ.root-named;
 }
