@@ -12,7 +12,6 @@ use Rattle.refusal.specs.Laws.Chains.{first-passed}
 use Rattle.refusal.specs.Laws.Tests.{lt-or-le}
 use Rattle.header.specs.Verdicts.{fst_offset, fst_size, fst_max_size, disc_end, table_end}
 use Rattle.tree.specs.Table.{Node, encode, limits}
-use Rattle.tree.proofs.Laws.RoundTrip.{within-limits, limits-within}
 use Rattle.space.specs.MaxRegionSize.{max_region_size}
 use Rattle.space.specs.Used.{no_region}
 use Rattle.space.specs.Laws.GrowthLaws.{table-largest}
@@ -30,7 +29,7 @@ use Rattle.edit_rules.proofs.Laws.PlaceTests.{PlacePassed, place-passed, stated-
 use Rattle.ledger.specs.Ledger.{first_ledger}
 use Rattle.ledger.proofs.Laws.Files.{places_in}
 use Rattle.ledger.proofs.Laws.Written.{Safe, table-written_image, fst-size-written_image, fst-max-size-written_image, bytes-written_image}
-use Rattle.ledger.proofs.Laws.Opened.{Opened, opened, nodes-written_image}
+use Rattle.ledger.proofs.Laws.Opened.{Opened, opened, more-limits, nodes-written_image}
 use Rattle.ledger.proofs.Laws.Room.{TableRoom, room, free-places}
 use Rattle.ledger.proofs.Laws.Kept.{Kept, tabled, table-safe}
 use Rattle.ledger.proofs.Laws.Sequence.{start}
@@ -122,11 +121,6 @@ module _ (t : Totals) (k : ℕ) (x : SpaceChange) (e : totals_verdict t k x ≡ 
       rw (le-ltb _ _ taken, le-ltb _ _ left, le-ltb (m.used + y.after) y.before (omega (arith, used)), le-ltb (2 ^ 32 - 1) (m.used + y.after - y.before) (omega (arith, used, used-small)))
 
 -- ---- after an accepted rewrite
-
-more-limits : (nodes : List Node) (w w' : ℕ) → w ≤ w' → limits nodes w ≡ Ok tt → limits nodes w' ≡ Ok tt
-more-limits nodes w w' h e =
-    let i = within-limits nodes w e in
-    limits-within nodes w' (record { few = i.few; texts = i.texts; room = omega (arith, i.room); depth = i.depth })
 
 module _ (a : Account) (image : List ℕ) (words bytes : ℕ) (b : AllBytes image) (v : verdict_of rewrite a image words bytes ≡ Ok tt) where
   abbrev nodes : List Node
