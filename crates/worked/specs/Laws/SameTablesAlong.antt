@@ -144,10 +144,10 @@ pub record IsAlikeAlong (new : List ℕ) : Type 0 where
 
 alike-along : (new : List ℕ) → DifferInUnread twins new → IsAlikeAlong new
 alike-along new u =
-    let n = (no-influence twins master_words at-twins.bytes at-twins.opens).0 new u in
-    let f = n.1 over before master_words 0x37 all-7-bytes in
+    let n = no-influence twins master_words at-twins.bytes at-twins.opens in
+    let f = n.edits new u over before master_words 0x37 all-7-bytes in
     let d : DifferInUnread sevens (after_fill new) = rw fills.written at f.differ in
-    let l : ListAlike list twins new = no-influence-along twins new master_words master_words list at-twins.bytes at-twins.opens (omega arith) within u in
+    let l : ListAlike list twins new = no-influence-along twins new master_words master_words list at-twins.bytes at-twins.opens within u in
     let m : DifferInUnread sevens_moved (image_after_all list new) = rw worked.image at l.at-last in
     record {
       filled = f.verdict ∙ fills.answered;

@@ -1,7 +1,7 @@
 -- The theorems about what fixes a table, applied to the images of one tree that share their texts in five ways or store false parents: their
 -- hypotheses hold there, and what they say is read off in numbers. Assumes nothing.
 use Rattle.std.specs.Prelude.{Ok, Err}
-use Rattle.std.specs.Prelude.{ℕ, zero, suc, ◌+◌, ◌-◌, ◌^◌, ◌<◌, ◌≤◌, ◌≡◌, refl, true, List, [], ◌∷◌, map, length, replicate, nat_lt, slice_index, slice_index_or}
+use Rattle.std.specs.Prelude.{ℕ, zero, suc, ◌+◌, ◌-◌, ◌^◌, ◌<◌, ◌≤◌, ◌≡◌, refl, List, [], ◌∷◌, map, length, replicate, nat_lt, slice_index, slice_index_or}
 use Rattle.std.proofs.Common.{ap, arith, sym, ◌∙◌}
 use Rattle.endian.specs.Bytes.{be32, put, are_same_bytes, AllBytes}
 use Rattle.refusal.specs.declared.Refusal.TheVariants.{LimitOrMemory, NoSuchEntry, NotEnoughSpace, TotalsOutOfRange, TakenAboveLimit, FreeBelowShares}
@@ -29,7 +29,7 @@ use Rattle.ledger.proofs.Laws.Steps.{step}
 use Rattle.ledger.proofs.Laws.TreeAfter.{tree-after}
 use Rattle.ledger.proofs.Laws.Unbounded.{IsUnbounded, own-record}
 use Rattle.edit.specs.TableAnew.{table_anew, anew_verdict}
-use Rattle.same_table.specs.Trees.{entry_alone, IsSameTree, HasTableOf, HaveSameTable, is_tabled, IsFixedByTree}
+use Rattle.same_table.specs.Trees.{entry_alone, IsSameTree, HasTableOf, HaveSameTable, WritesTable, IsFixedByTree}
 use Rattle.same_table.specs.Unread.{DifferInUnread}
 use Rattle.same_table.specs.Theorem.{IsWrittenAnew}
 use Rattle.same_table.proofs.Laws.FixedByTree.{same-table}
@@ -201,12 +201,11 @@ module _ (edits : ℕ) (h : edits + 1 < 2 ^ 32) where
 
 pub record Moves : Type 0 where
   pub passes : Passes 0x440 0x35 move master_words 0x37
-  pub tabled : is_tabled (plan_of move (disc 0x440 0x35)) ≡ true
   pub table : encode (plan_tree (plan_of move (disc 0x440 0x35)) tree) ≡ table_moved
 
 pub moves : Moves
 unfolding table_verdict place_verdict limits is_shallow is_shallow_from dirs_open_at texts_of encode entries_bytes parent_of parent_below max_size_from size_beside_free plan_move set_place
-moves = let f = around-35.free in record { passes = rw (f, f); tabled = rw f; table = rw f }
+moves = let f = around-35.free in record { passes = rw (f, f); table = rw f }
 
 moved : answer move (own twins) twins ≡ Ok tt
 moved = accepts at-twins around-35 0 (omega arith) move (omega arith) master_words 0x37 (omega arith) moves.passes
@@ -258,12 +257,12 @@ whole =
 
 -- an accepted edit that writes a table
 module _ {o n : ℕ} {image : List ℕ} (r : Reads o n image) (around : Around o n) (ed : Edit) (p : IsPassable ed) (a : Account) (words bytes : ℕ)
-    (v : verdict_of ed a image words bytes ≡ Ok tt) (t : is_tabled (plan_of ed (disc o n)) ≡ true) where
+    (v : verdict_of ed a image words bytes ≡ Ok tt) (t : WritesTable tree ed) where
   abbrev new : List ℕ
   new = image_after ed a image words bytes
 
   has-table : HasTableOf new (plan_tree (plan_of ed (disc o n)) tree)
-  has-table = rw (meant r around, r.nodes) at (written-table ed a image words bytes p r.bytes v (rw (meant r around) t))
+  has-table = rw (meant r around, r.nodes) at (written-table ed a image words bytes p r.bytes v (rw r.nodes t))
 
   has-tree : nodes_in new ≡ plan_tree (plan_of ed (disc o n)) tree
   has-tree = rw (meant r around, r.nodes) at (tree-after ed a image words bytes r.bytes p v)
@@ -273,7 +272,7 @@ module _ {o n : ℕ} {image : List ℕ} (r : Reads o n image) (around : Around o
   stays =
       let o = (accepted ed a image words bytes v).opens in
       let k = step words image (first_ledger image) (start image words words (omega arith) r.bytes o) words bytes (omega arith) a ed p in
-      written-stays new words k.bytes k.opens (rw has-tree has-table)
+      written-stays new k.bytes (rw has-tree has-table)
 
 -- an image of the tree
 pub record IsWritten (image : List ℕ) : Type 0 where
@@ -287,7 +286,7 @@ pub record IsWritten (image : List ℕ) : Type 0 where
 written : {o n : ℕ} {image : List ℕ} → Reads o n image → Around o n → Passes o n rewrite master_words 0x37 → IsWritten image
 written {image = image} r around passes =
     let v = accepts r around 0 (omega arith) rewrite tt master_words 0x37 (omega arith) passes in
-    let t = has-table r around rewrite tt (own image) master_words 0x37 v refl in
+    let t = has-table r around rewrite tt (own image) master_words 0x37 v tt in
     record { opens = r.opens; nodes = r.nodes; accepted = v; table = t.table ∙ encoded.0; size = t.size ∙ ap length encoded.0 ∙ encoded.1 }
 
 pub record OneTable : Type 0 where
@@ -347,12 +346,11 @@ table_with_c =
     0x61 ∷ 0 ∷ 0x61 ∷ 0 ∷ 0x62 ∷ 0x61 ∷ 0 ∷ 0x63 ∷ 0 ∷ []
 
 record Inserts (o n : ℕ) : Type 0 where
-  pub tabled : is_tabled (plan_of insert_c (disc o n)) ≡ true
   pub table : encode (plan_tree (plan_of insert_c (disc o n)) tree) ≡ table_with_c
 
 inserts : (o n : ℕ) → Inserts o n
 unfolding insert_verdict insert_at splice raised_next child_of first_child are_same_bytes is_plain is_safe units dirs_open_at texts_of encode entries_bytes parent_of parent_below
-inserts o n = record { tabled = refl; table = refl }
+inserts o n = record { table = refl }
 
 pub record SameAfter : Type 0 where
   pub rewritten : HaveSameTable (of_unshared rewrite) (of_slack rewrite)
@@ -371,7 +369,7 @@ same-after =
     let c = same insert_c tt a.inserts b.inserts tt in
     let v = unshared-accepts insert_c tt a.inserts b.inserts in
     let i = inserts 0x440 0x37 in
-    let t = has-table at-unshared around-37 insert_c tt (own unshared) master_words 0x53 v i.tabled in
+    let t = has-table at-unshared around-37 insert_c tt (own unshared) master_words 0x53 v tt in
     record {
       rewritten = same rewrite tt rewrites.with-53 rewrites.with-more tt;
       inserted = c;
@@ -497,8 +495,8 @@ again =
       share = judged (keeping 6794);
       over = judged over;
       no-team = judged (account (back rewrite (own twins) twins) 16);
-      rewritten = stays at-slack around-slack rewrite tt (own_with 7 slack) 20000 0x60 (slack-accepts rewrite tt a b) refl;
-      inserted = stays at-slack around-slack insert_c tt (own_with 7 slack) 20000 0x60 c (inserts 0x480 0x3C).tabled;
+      rewritten = stays at-slack around-slack rewrite tt (own_with 7 slack) 20000 0x60 (slack-accepts rewrite tt a b) tt;
+      inserted = stays at-slack around-slack insert_c tt (own_with 7 slack) 20000 0x60 c tt;
     }
 
 -- ---- what no call reads
@@ -516,10 +514,10 @@ differ =
     let n = no-influence twins master_words at-twins.bytes at-twins.opens in
     let o = at-twins.header.0 in
     record {
-      root-in-7 = rw o at (n.1 0 (0 ∷ 0 ∷ 0 ∷ 7 ∷ []) (rw kinds.0 (omega arith)) kinds.1 refl);
-      in-itself = rw o at (n.1 1 (0 ∷ 0 ∷ 0 ∷ 1 ∷ []) (rw kinds.0 (omega arith)) kinds.2 refl);
-      in-none = rw o at (n.1 2 (0xFF ∷ 0xFF ∷ 0xFF ∷ 0xFF ∷ []) (rw kinds.0 (omega arith)) kinds.3 refl);
-      root-named = rw o at (n.2 (0 ∷ 0 ∷ 5 ∷ []) refl);
+      root-in-7 = rw o at (n.parent 0 (0 ∷ 0 ∷ 0 ∷ 7 ∷ []) (rw kinds.0 (omega arith)) kinds.1 refl);
+      in-itself = rw o at (n.parent 1 (0 ∷ 0 ∷ 0 ∷ 1 ∷ []) (rw kinds.0 (omega arith)) kinds.2 refl);
+      in-none = rw o at (n.parent 2 (0xFF ∷ 0xFF ∷ 0xFF ∷ 0xFF ∷ []) (rw kinds.0 (omega arith)) kinds.3 refl);
+      root-named = rw o at (n.root-name (0 ∷ 0 ∷ 5 ∷ []) refl);
     }
 
 -- what is so of such an image as of the twins
@@ -547,22 +545,22 @@ pub record IsAlike (new : List ℕ) : Type 0 where
 
 alike : (new : List ℕ) → DifferInUnread twins new → IsAlike new
 alike new u =
-    let n = (no-influence twins master_words at-twins.bytes at-twins.opens).0 new u in
-    let of-rewrite = n.1 rewrite (own twins) master_words 0x37 tt in
-    let of-move = n.1 move (own twins) master_words 0x37 (omega arith) in
-    let of-resize = n.1 resize (own twins) master_words 0x37 (omega arith) in
-    let of-low = n.1 move_low (own twins) master_words 0x37 (omega arith) in
-    let d = n.0.disc ∙ meant at-twins around-35 in
-    let t : is_tabled (plan_of move (disc_of twins)) ≡ true = ap (λ e. is_tabled (plan_of move e)) (meant at-twins around-35) ∙ moves.tabled in
-    let i = of-move.written moved t in
-    let h = has-table at-twins around-35 move (omega arith) (own twins) master_words 0x37 moved moves.tabled in
+    let n = no-influence twins master_words at-twins.bytes at-twins.opens in
+    let q = n.opens new u in
+    let of-rewrite = n.edits new u rewrite (own twins) master_words 0x37 tt in
+    let of-move = n.edits new u move (own twins) master_words 0x37 (omega arith) in
+    let of-resize = n.edits new u resize (own twins) master_words 0x37 (omega arith) in
+    let of-low = n.edits new u move_low (own twins) master_words 0x37 (omega arith) in
+    let d = q.disc ∙ meant at-twins around-35 in
+    let i = of-move.written moved tt in
+    let h = has-table at-twins around-35 move (omega arith) (own twins) master_words 0x37 moved tt in
     record {
       bytes = (u.len ∙ twins-long, byte-of u bytes.next, byte-of u bytes.text, byte-of u bytes.file);
-      opens = (n.0.opens master_words ∙ at-twins.opens, n.0.opens 24 ∙ with_words.0, n.0.opens 23 ∙ with_words.1);
+      opens = (q.opens master_words ∙ at-twins.opens, q.opens 24 ∙ with_words.0, q.opens 23 ∙ with_words.1);
       disc = d;
       rewritten = of-rewrite.verdict ∙ rewritten 0 (omega arith);
       rewrite-record = of-rewrite.totals ∙ rewrite-counted 0 (omega arith);
-      rewrite-image = of-rewrite.written (rewritten 0 (omega arith)) refl ∙ rewritten-is 0 (omega arith);
+      rewrite-image = of-rewrite.written (rewritten 0 (omega arith)) tt ∙ rewritten-is 0 (omega arith);
       moved = of-move.verdict ∙ moved;
       move-record = of-move.totals;
       move-image = i;
