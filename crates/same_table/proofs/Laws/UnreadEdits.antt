@@ -1,4 +1,4 @@
--- What stands in the bytes that no call reads has no influence on an edit: the verdict and the record are the same, and where a table is written so is
+-- What stands in a table's unread bytes has no influence on an edit: the verdict and the record are the same, and where a table is written so is
 -- the whole image. Assumes nothing.
 use Rattle.std.specs.Prelude.{Ok, Err, is_err}
 use Rattle.std.specs.Prelude.{ℕ, ◌+◌, ◌-◌, ◌<◌, ◌≤◌, ◌≡◌, refl, Bool, true, false, cond, List, [], ◌∷◌, length, get_or, slice_index, replicate}

@@ -1,4 +1,4 @@
--- Four bytes put over the stored parent of a directory, the root's too, and three over the root's name offset: no call reads what they replace.
+-- Four bytes put over the stored parent of a directory, the root's too, and three over the root's name offset: unread bytes alone are replaced.
 -- Assumes nothing.
 use Rattle.std.specs.Prelude.{Ok}
 use Rattle.std.specs.Prelude.{ℕ, ◌+◌, ◌-◌, ◌*◌, ◌/◌, ◌<◌, ◌≤◌, ◌≡◌, false, List, length, leb}
@@ -14,7 +14,7 @@ use Rattle.same_table.proofs.Laws.UnreadTable.{IsUnread, is-unread, some}
 use Rattle.same_table.proofs.Laws.UnreadImage.{table-fits, entries_fit}
 
 module _ (image : List ℕ) (w : ℕ) (b : AllBytes image) (e : opening image w ≡ Ok tt) where
-  -- bytes of the table that no call reads
+  -- unread bytes of the table
   put-differs : (at : ℕ) (bs : List ℕ) → at + length bs ≤ fst_size image → ((i : ℕ) → at ≤ i → i < at + length bs → IsUnread (table_of image) i) → DifferInUnread image (put image (fst_offset image + at) bs)
   put-differs at bs h unread =
       let f : fst_offset image + at + length bs ≤ length image = omega (arith, table-fits image w b e) in

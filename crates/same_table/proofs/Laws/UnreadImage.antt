@@ -1,4 +1,4 @@
--- Images that differ in bytes of the table that no call reads, at most, open alike: with any words, to the same disc. And bytes put behind the table of
+-- Images that differ in unread bytes of the table at most open alike: with any words, to the same disc. And bytes put behind the table of
 -- both leave them so. Assumes nothing.
 use Rattle.std.specs.Prelude.{Ok}
 use Rattle.std.specs.Prelude.{ℕ, ◌+◌, ◌-◌, ◌*◌, ◌<◌, ◌≤◌, ◌≡◌, false, List, [], ◌∷◌, length, get_or, leb}

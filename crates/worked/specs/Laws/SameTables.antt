@@ -240,8 +240,8 @@ pub with_words : (opening twins 24 ≡ Ok tt) × (opening twins 23 ≡ Err Limit
 unfolding twins master put opening layout_verdict header_verdict all_fields_verdict field_verdict fields bounds_verdict table_of check nodes_in nodes_of nodes_from node_at name_at count entries_verdict entry_verdict is_unended walk name_verdict next_verdict dirs_open_at is_plain is_safe be24 be32 used_in regions_behind_table program_of program_in own_region nonempty_regions are_disjoint_below are_pairwise_disjoint is_disjoint_from_all are_disjoint are_below units
 with_words = (refl, refl)
 
--- which of their bytes no call reads: of the name offset and the parent that the root stores, and of the parent that the inner `a` does; and which a
--- call reads: of kinds and nexts, of the name offset of the outer `a`, and of the offset of the file
+-- which of their bytes neither opening nor an edit reads: of the name offset and the parent that the root stores, and of the parent that the inner `a` does; and which they
+-- read: of kinds and nexts, of the name offset of the outer `a`, and of the offset of the file
 pub record Unread : Type 0 where
   pub root-name : (is_unread_in twins 0x441 ≡ true) × (is_unread_in twins 0x443 ≡ true)
   pub root-parent : (is_unread_in twins 0x444 ≡ true) × (is_unread_in twins 0x447 ≡ true)

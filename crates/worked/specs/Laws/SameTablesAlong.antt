@@ -1,4 +1,4 @@
--- What no call reads, along a list of calls: a fill with as many bytes as the file has, which writes no table, a move that is refused, and one that
+-- What neither opening nor an edit reads, along a list of calls: a fill with as many bytes as the file has, which writes no table, a move that is refused, and one that
 -- is accepted, on the twins and on the images that store what is false. Assumes nothing.
 use Rattle.std.specs.Prelude.{Ok, Err}
 use Rattle.std.specs.Prelude.{ℕ, ◌≡◌, refl, true, false, List, [], ◌∷◌, slice_index}

@@ -499,7 +499,7 @@ again =
       inserted = stays at-slack around-slack insert_c tt (own_with 7 slack) 20000 0x60 c tt;
     }
 
--- ---- what no call reads
+-- ---- what has no influence
 
 -- the images that store what is false differ from the twins in such bytes alone
 pub record DifferInThat : Type 0 where
