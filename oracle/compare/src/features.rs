@@ -444,7 +444,6 @@ pub fn of_class(trees: &[&Tree]) -> Vec<&'static str> {
     let differ = |of: fn(&Tree) -> u64| trees.iter().any(|tree| of(tree) != of(first));
     let directories: Vec<usize> = (1..entries.len()).filter(|k| entries[*k].directory).collect();
     let ends = |next: u32| directories.iter().filter(|k| entries[**k].size == next).count();
-    let child = |k: usize| first.child(entries[k].parent, &entries[k].name);
     let name = |k: usize| &entries[k].name;
     let end_of_other = |k: usize| {
         let longer = |j: usize| name(j).len() > name(k).len() && name(j).ends_with(name(k));
@@ -472,7 +471,7 @@ pub fn of_class(trees: &[&Tree]) -> Vec<&'static str> {
             directories.iter().any(|k| ends(entries[*k].size) > 2),
             "pairs: three directories end together",
         ),
-        ((1..entries.len()).any(|k| child(k) != Some(k)), "pairs: equal names in a directory"),
+        ((1..entries.len() as u32).any(|k| first.is_twin(k)), "pairs: equal names in a directory"),
         ((1..entries.len()).any(end_of_other), "pairs: a name is the end of another"),
         (
             (1..entries.len()).any(|k| rules::units(name(k)).any(|unit| unit.len() == 2)),
@@ -555,6 +554,14 @@ pub fn of_one_table(call: &Call, told: &[(&Tree, &str, u32)]) -> Vec<&'static st
     let is = |of: fn(&u64, &u64) -> bool| {
         accepted.iter().any(|(tree, ..)| of(&written(tree), &tree.fst_size))
     };
+    let along_twins = || {
+        let Call::MakeDirectories(_, path) = call else { return false };
+        let twin = |k: &u32| tree.entries[*k as usize].directory && tree.is_twin(*k);
+        let name = |k: u32| &tree.entries[k as usize].name[..];
+        let twins = (1..tree.entries.len() as u32).filter(twin);
+        let twins: Vec<&[u8]> = twins.map(name).collect();
+        rules::components(path).iter().any(|part| twins.contains(part))
+    };
     let growth = met.last() == Some(&"pairs: a growth in two places");
     met.extend(of(&[
         (
@@ -565,6 +572,7 @@ pub fn of_one_table(call: &Call, told: &[(&Tree, &str, u32)]) -> Vec<&'static st
             growth && !accepted.iter().all(|told| elsewhere(told)),
             "pairs: a growth where it is, and elsewhere",
         ),
+        (along_twins(), "pairs: one table, along a name that two directories have"),
         (is(u64::gt) && is(u64::lt), "pairs: one table gets longer, and another shorter"),
         (
             accepted.iter().any(|told| told.0.fst_offset != tree.fst_offset),

@@ -335,6 +335,8 @@ fn edit(r: &mut Random, codec: &Codec, tree: &Tree, length: usize, inserts: bool
     };
     let (directories, mut files) = (numbers(true), numbers(false));
     files.retain(|number| tree.entries[*number as usize].size > 0);
+    // Not the first of its name where it is.
+    let twins: Vec<u32> = directories.iter().copied().filter(|k| tree.is_twin(*k)).collect();
     let name = |r: &mut Random| match r.below(5) {
         0 => tree.entries[r.below(tree.entries.len())].name.clone(),
         1 => names::name(r, false),
@@ -345,6 +347,10 @@ fn edit(r: &mut Random, codec: &Codec, tree: &Tree, length: usize, inserts: bool
         let call = match r.within(if inserts { 0 } else { 10 }, 20) {
             // Where there are places to go to.
             _ if length > ALIGN as usize && r.chance(35) => steps::edit(r, tree, 1),
+            _ if inserts && !twins.is_empty() && r.chance(15) => {
+                let twin = *r.pick(&twins);
+                Call::MakeDirectories(0, path(r, tree, 0, twin))
+            }
             0 | 1 => Call::InsertFile(directory, name(r)),
             2 | 3 => Call::InsertDirectory(directory, name(r)),
             4..=9 => {
