@@ -61,8 +61,9 @@ fn pool(r: &mut Random, codec: &Codec) -> Vec<Vec<u8>> {
 struct Growth {
     names: Vec<Vec<u8>>,
     equal_names: bool,
-    /// Of 100 entries so many are directories, and as often a directory ends.
+    /// Of 100 entries so many are directories.
     directories: usize,
+    /// Of 100 times that an entry could follow in a directory, it ends so often.
     up: usize,
     left: usize,
 }
