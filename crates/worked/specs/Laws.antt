@@ -19,6 +19,9 @@ pub mod Places
 pub mod Planned
 pub mod Programs
 pub mod Records
+pub mod SameTables
+pub mod SameTablesAlong
+pub mod SameTablesApplied
 pub mod Steps
 pub mod StepsApplied
 pub mod Teams

@@ -255,6 +255,13 @@ const MAP: Flag = Flag {
     words: "draws both discs side by side, into a new file",
 };
 
+const TABLES: Flag = Flag {
+    name: "--tables",
+    value: None,
+    words: "compares trees and tables alone, of two images; tells what a rewrite makes of these. Not with --given, \
+            --only-differences or --map",
+};
+
 const LOOK: &[&Flag] = &[&JSON, &WAIT, &AS_IS];
 const NAMED: &[&Flag] = &[&BYTES, &JSON, &WAIT, &AS_IS];
 const EDIT: &[&Flag] = &[&RECORD, &TEAM, &DRY, &BYTES, &JSON, &WAIT];
@@ -397,23 +404,25 @@ pub const FORMS: &[Form] = &[
             "check",
             &[&IMAGE],
             "opens the image, or says which refusal it meets and why; tells of a table above its maximum, of \
-             stored parents that are not the nesting's, of texts that no entry uses, of a table that a rewrite \
-             would alter, and of names that differ in case alone",
+             stored parents that are not the nesting's, of texts that no entry uses, of how many bytes of the \
+             table a rewrite would alter, and of names that differ in case alone",
             &["counter check disc.iso"],
         )
     },
     Form {
         group: Group::Check,
-        flags: &[&GIVEN, &ONLY, &MAP, &BYTES, &JSON, &WAIT, &AS_IS],
+        flags: &[&GIVEN, &ONLY, &MAP, &TABLES, &BYTES, &JSON, &WAIT, &AS_IS],
         more: COMPARE,
         ..look(
             "compare",
             &[&BEFORE, &AFTER],
-            "each file: unchanged, moved, resized, changed, new or gone; with --given the licence check",
+            "each file: unchanged, moved, resized, changed, new or gone; with --given the licence check; with --tables \
+             whether two masters have the same tree",
             &[
                 "counter compare before.iso disc.iso --given given.txt",
                 "counter compare before.sums disc.iso --given given.txt --only-differences",
                 "counter compare before.iso disc.iso --given given.txt --map both.svg",
+                "counter compare ours.iso theirs.iso --tables",
             ],
         )
     },
@@ -612,7 +621,14 @@ sum of AFTER and says otherwise of it, is none (65). One of version 1 has no sum
 what a rewrite writes is then `unknown`, and fails the check.
 With --as-is an image of which an edit was cut does not pass (78), since it may hold a part of the edit.
 An image too short for a header ends compare with 65, since 1 says that something differs; every other \
-refusal ends it with its own number.";
+refusal ends it with its own number.
+With --tables the trees and tables of two images are compared, and no file's bytes are read. It tells whether both \
+have the same tree (the entries' names, order, kinds and folders, the files' offsets and sizes) or where they first \
+have not; whether their tables are the same bytes now; whether the tables that a rewrite writes of them are, which is \
+so exactly where the trees are the same; and of each what a rewrite alters: how many bytes from the table's start to \
+where the longer one ends, the old or the new, and the table's size. A rewrite is tried on a private copy; one that is \
+refused is told with its cause, and leaves the table as it is. Exit status 0 if the trees are the same, 1 if they are \
+not, whatever becomes of the tables.";
 
 const MANIFEST: &str = "\
 A line for each file, as sha256sum writes it: the sum, two spaces, the path. Everything else is on \
@@ -679,6 +695,8 @@ pub struct Args {
     pub all: bool,
     pub number: bool,
     pub clusters: bool,
+    /// Trees and tables alone are compared.
+    pub tables: bool,
     pub paths: bool,
     /// An empty clip is meant.
     pub empty: bool,
@@ -758,6 +776,7 @@ impl Args {
             all: false,
             number: false,
             clusters: false,
+            tables: false,
             paths: false,
             empty: false,
             size: None,
@@ -827,6 +846,7 @@ impl Args {
             "--all" => self.all = true,
             "--number" => self.number = true,
             "--clusters" => self.clusters = true,
+            "--tables" => self.tables = true,
             "--paths" => self.paths = true,
             "--bytes" => self.raw = true,
             "--demo" => self.demo = true,

@@ -2,7 +2,7 @@
 
 use crate::area::{Area, Was, header, old_header, program, system, table, tail};
 use crate::args::Args;
-use crate::disc::Disc;
+use crate::disc::{self, Disc};
 use crate::failure::{CUT, DATA, Failure, Outcome};
 use crate::given::Given;
 use crate::image::{Desk, Image, same_file};
@@ -79,11 +79,8 @@ impl Pair {
         }
         let names = (names::file(path), names::file(&after));
         let (image, after) = opened(&after)?;
-        if let Before::Image(old, _) = &before
-            && agree_anyway(old, &image)
-        {
-            let text = format!("{} and {} are one and the same file", names.0, names.1);
-            return Err(Failure::usage(text));
+        if let Before::Image(old, _) = &before {
+            two_files(old, &image)?;
         }
         Ok(Pair { before, image, after, names })
     }
@@ -99,22 +96,30 @@ impl Pair {
     }
 }
 
-/// Opens one of the two. Status 1 says that something differs, so the refusal 1 becomes 65.
 fn opened(path: &Path) -> Outcome<(Image, Layout)> {
-    let image = Image::read(Some(path))?;
-    let mut desk = Desk::new();
-    let disc = Disc::read(&image, &mut desk).map_err(|failure| match failure {
-        Failure::Refused { number: 1, .. } => Failure::error(DATA, failure.to_string()),
-        other => other,
-    })?;
+    let (image, mut desk, disc) = one_of_two(path)?;
     let layout = Layout::of(&image, &mut desk, &disc.with_paths()?)?;
     Ok((image, layout))
 }
 
-/// Whether they are one file, which agrees with itself whatever it holds.
-fn agree_anyway(a: &Image, b: &Image) -> bool {
+/// Opens one of the two. Status 1 says that something differs, so the refusal 1 becomes 65.
+pub fn one_of_two(path: &Path) -> Outcome<(Image, Desk, Disc)> {
+    disc::opened(Some(path)).map_err(|failure| match failure {
+        Failure::Refused { number: 1, .. } => Failure::error(DATA, failure.to_string()),
+        other => other,
+    })
+}
+
+/// That they are no one file, which agrees with itself whatever it holds.
+pub fn two_files(a: &Image, b: &Image) -> Outcome<()> {
     let told = |image: &Image| image.file().and_then(|file| file.metadata().ok());
-    matches!((told(a), told(b)), (Some(a), Some(b)) if same_file(&a, &b))
+    match (told(a), told(b)) {
+        (Some(one), Some(other)) if same_file(&one, &other) => {
+            let text = format!("{} and {} are one and the same file", a.name, b.name);
+            Err(Failure::usage(text))
+        }
+        _ => Ok(()),
+    }
 }
 
 // Rows ------------------------------------------------------------------------------------
@@ -770,7 +775,8 @@ impl Comparison<'_> {
     }
 }
 
-fn cut_words(name: &str) -> String {
+/// What is to be known of an image of which an edit was cut.
+pub fn cut_words(name: &str) -> String {
     format!(
         "an edit of {name} was cut, and it may hold a part of it: `counter recover` finishes the edit"
     )

@@ -224,14 +224,21 @@ const FIELDS: &[(&str, &str)] = &[
         "check",
         "status opens entries files disc_end used free fst_size fst_maximum fst_left fst_above fst_rewritten \
          fst_rewritten_above stored_parents[number path path_bytes stored parent] root{name_offset parent} \
-         unused_texts unused_texts_at rewrite_alters_at rewrite_refused \
+         unused_texts unused_texts_at REWRITE \
          alike[path path_bytes found found_bytes] notes[...]; stored_parents: folders whose stored parent \
          is not the one that they are nested in; unused_texts: bytes of the table's texts that no entry \
-         uses; rewrite_alters_at: where a rewrite would begin to alter the table, or null; \
-         rewrite_refused: the number for which a limit refuses it, or null; alike: names that a game \
-         which looks up without case does not find, and what it finds in their place",
+         uses; alike: names that a game which looks up without case does not find, and what it finds in their \
+         place",
     ),
     ("compare", COMPARED),
+    (
+        "compare",
+        "with --tables: status before after cut[name] same_tree difference{number parts[...] before{ENTRY} \
+         after{ENTRY}} same_tables same_rewritten tables{before{entries fst_offset fst_size REWRITE} \
+         after{entries fst_offset fst_size REWRITE}}; difference: the first entry that differs, or null; parts: name \
+         kind folder offset size, or none where one image ends before that entry, which is null there; same_tables: \
+         as they are now; same_rewritten: as a rewrite writes them, null where a limit refuses one (9)",
+    ),
     ("report", COMPARED),
     ("mkdir", EDITED),
     ("add", EDITED),
@@ -283,7 +290,7 @@ fn json(forms: &[Form]) -> String {
         let line = wrapped(fields, 11, 11);
         let _ = writeln!(out, "  {name:<8} {}", line.trim_start());
     }
-    if forms.iter().any(|form| ["list", "tree", "find"].contains(&form.name)) {
+    if forms.iter().any(|form| ["list", "tree", "find", "compare"].contains(&form.name)) {
         out.push_str("  ENTRY    number kind parent path path_bytes, and offset size (kind file) or next (kind directory)\n");
     }
     if forms.iter().any(|form| form.has("--record") || form.name == "recover") {
@@ -302,6 +309,15 @@ fn json(forms: &[Form]) -> String {
              \x20 shared; fst_rewritten_above: by how many bytes that is above it, or 0 (where it is not 0 every edit\n\
              \x20 that writes a table is refused); both are null where there is no maximum, or where a limit\n\
              \x20 refuses a rewrite (9)\n",
+        );
+    }
+    if forms.iter().any(|form| ["check", "compare"].contains(&form.name)) {
+        out.push_str(
+            "  REWRITE  rewrite_alters_bytes rewrite_alters_at rewrite_size, and rewrite_refused rewrite_cause\n\
+             \x20          rewrite_detail. What a rewrite alters: how many bytes from the table's start to where the\n\
+             \x20          longer table ends, the old or the new, and the first of them (0 and null if none); the size\n\
+             \x20          of the table that it writes, or null where a limit refuses that (9). And number and words\n\
+             \x20          of a refused one, or null: then it alters nothing, and the first two are null\n",
         );
     }
     if forms.iter().any(|form| ["info", "tree", "free"].contains(&form.name)) {
@@ -400,7 +416,7 @@ Safety
 
 fn statuses() -> String {
     let mut out = format!(
-        "\nExit status, and what it says of the image of an edit\n   0  done: written and synced, or there was nothing to write\n   1  compare, report: something differs without leave; else as below\n      1 to {}: refused, nothing changed, not even the time of modification\n",
+        "\nExit status, and what it says of the image of an edit\n   0  done: written and synced, or there was nothing to write\n   1  compare, report: something differs without leave, or with --tables the trees do; else as below\n      1 to {}: refused, nothing changed, not even the time of modification\n",
         CAUSES.len()
     );
     for (i, cause) in CAUSES.iter().enumerate() {

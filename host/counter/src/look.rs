@@ -1,5 +1,6 @@
 //! The commands that look at an image.
 
+use crate::anew::Anew;
 use crate::args::Args;
 use crate::banner::Banner;
 use crate::disc::{
@@ -277,10 +278,12 @@ pub fn check(args: &Args) -> Outcome<()> {
     let (image, mut desk, disc) = opened(args.image.as_deref())?;
     let space = Space::read(&image, &mut desk)?;
     let maximum = Maximum::read(&image, &mut desk, &disc.opened)?;
-    let stored = Stored::read(&image, &mut desk, &disc);
+    let stored = Stored::read(&image, &disc);
+    let anew = Anew::read(&image, &mut desk, &disc)?;
     let mut notes: Vec<String> = maximum.note().into_iter().collect();
     notes.extend(trouble::nkit(image.bytes()).map(String::from));
     notes.extend(stored.notes());
+    notes.extend(anew.note());
     let alike = alike(&disc);
     if !disc.has_paths() {
         notes.push(
@@ -309,6 +312,7 @@ pub fn check(args: &Args) -> Outcome<()> {
         ];
         fields.extend(maximum.fields());
         fields.extend(stored.fields());
+        fields.extend(anew.fields());
         let pairs = alike.iter().map(|(found, hidden)| {
             let [path, path_bytes] = json::path(&hidden.path);
             let [(_, text), (_, bytes)] = json::path(&found.path);

@@ -7,6 +7,7 @@
 mod out;
 
 mod account;
+mod anew;
 mod area;
 mod args;
 mod banner;
@@ -53,6 +54,7 @@ mod sha256;
 mod signals;
 mod stored;
 mod sum;
+mod tables;
 mod take;
 mod teams;
 mod text;
@@ -156,6 +158,7 @@ fn run(args: Args) -> Outcome<u8> {
         "map" => map::map(&args)?,
         "hash" => manifest::hash(&args)?,
         "record" => record::record(&args)?,
+        "compare" if args.tables => return tables::compare(&args),
         "compare" => return compare::compare(&args),
         "report" => return report::report(&args),
         "recover" => recover::recover(&args)?,

@@ -1,7 +1,6 @@
 //! The table as it is stored, held against what a rewrite of its tree writes: opening goes by the nesting, so
 //! stored parents, name offsets and texts that no entry uses may be anything.
 
-use crate::cause::cause;
 use crate::disc::{Disc, Node, table_anew};
 use crate::image::{Desk, Image};
 use crate::json::{self, Json};
@@ -11,7 +10,8 @@ use crate::text::counted;
 /// Bytes of an entry.
 const ENTRY: usize = 12;
 
-fn table<'a>(image: &'a Image, disc: &Disc) -> &'a [u8] {
+/// The table as it is.
+pub fn table<'a>(image: &'a Image, disc: &Disc) -> &'a [u8] {
     let (fst, size) = (disc.opened.fst_offset as usize, disc.opened.fst_size as usize);
     image.bytes().get(fst..).and_then(|rest| rest.get(..size)).unwrap_or_default()
 }
@@ -79,31 +79,20 @@ pub struct Stored {
     root: (u32, u32),
     /// Texts that no entry uses: how many bytes, where the first is, and whether all are zero.
     unused: Option<(u64, u64, bool)>,
-    departure: Departure,
-    /// What lies there.
-    what: String,
 }
 
 impl Stored {
-    pub fn read(image: &Image, desk: &mut Desk, disc: &Disc) -> Stored {
+    pub fn read(image: &Image, disc: &Disc) -> Stored {
         let table = table(image, disc);
-        let fst = u64::from(disc.opened.fst_offset);
         let stored = |node: &Node| word(table, ENTRY * node.number as usize + 4);
         let folders = disc.nodes.iter().skip(1).filter(|node| node.is_directory());
         let wrong = folders.filter(|node| stored(node) != node.parent);
         let parents =
             wrong.map(|node| (node.number, node.path.clone(), stored(node), node.parent)).collect();
-        let departure = departure(image, desk, disc);
-        let what = match departure {
-            Departure::At(at) => what_lies_at(at, fst, table),
-            _ => String::new(),
-        };
         Stored {
             parents,
             root: (word(table, 0) & 0xFF_FFFF, word(table, 4)),
             unused: unused(image, disc, table),
-            departure,
-            what,
         }
     }
 
@@ -134,16 +123,6 @@ impl Stored {
                 if bytes == 1 { "is" } else { "are" },
             ));
         }
-        const EDITS: &str = "a rewrite, and every edit that writes the table,";
-        match self.departure {
-            Departure::None => {}
-            Departure::At(at) => notes
-                .push(format!("{EDITS} would alter it, first at {at:#x}, {}", self.what)),
-            Departure::Refused(number) => notes.push(format!(
-                "{EDITS} is refused {number} ({}): with no name shared it would pass the limits of a table",
-                cause(number).unwrap_or_default()
-            )),
-        }
         notes
     }
 
@@ -155,19 +134,12 @@ impl Stored {
             fields.push(("parent", (*parent).into()));
             Json::Object(fields)
         });
-        let (alters, refused) = match self.departure {
-            Departure::None => (None, None),
-            Departure::At(at) => (Some(at), None),
-            Departure::Refused(number) => (None, Some(number)),
-        };
         let root = vec![("name_offset", self.root.0.into()), ("parent", self.root.1.into())];
         vec![
             ("stored_parents", Json::List(parents.collect())),
             ("root", Json::Object(root)),
             ("unused_texts", self.unused.map_or(0, |unused| unused.0).into()),
             ("unused_texts_at", self.unused.map(|unused| unused.1).into()),
-            ("rewrite_alters_at", alters.into()),
-            ("rewrite_refused", refused.into()),
         ]
     }
 }

@@ -20,6 +20,9 @@ fn fixture() -> Temp {
     let disc = temp.at("disc.iso");
     sparse(&disc, &usual(0x10_0000, 0x4_5678), 0x20_0000);
     fs::copy(&disc, temp.at("before.iso")).unwrap();
+    for master in ["ours.iso", "theirs.iso"] {
+        fs::copy(&disc, temp.at(master)).unwrap();
+    }
     temp.write("before.sums", done("hash", &disc, &[]).as_bytes());
     done("move", &disc, &["audio/theme.adp", "0x190000"]);
     temp.write("given.txt", b"/audio/theme.adp\n");
@@ -82,6 +85,7 @@ fn help_comes_in_every_way_and_is_about_its_command_alone() {
         "--given",
         "--only-differences",
         "--map",
+        "--tables",
         "--as-is",
         "--anyway",
         "--without-record",
@@ -213,6 +217,7 @@ fn bash_completes_commands_options_files_and_paths() {
     let offered = |words: &[&str]| offered(&temp, words);
     assert_eq!(offered(&["counter", "comp"]), ["compare"]);
     assert_eq!(offered(&["counter", "compare", "--on"]), ["--only-differences"]);
+    assert_eq!(offered(&["counter", "compare", "before.iso", "--ta"]), ["--tables"]);
     assert_eq!(offered(&["counter", "free", "disc.iso", "--c"]), ["--clusters"]);
     assert_eq!(offered(&["counter", "list", "dis"]), ["disc.iso"]);
     assert_eq!(

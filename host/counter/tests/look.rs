@@ -998,7 +998,7 @@ fn help_names_every_field_of_the_json() {
     fs::copy(&image, &copy).unwrap();
     let copy = copy.to_str().unwrap();
     let lines = temp.write("lines.bin", b"lines");
-    let commands: [(&str, &[&str]); 21] = [
+    let commands: [(&str, &[&str]); 22] = [
         ("info", &[]),
         ("list", &[]),
         ("tree", &[]),
@@ -1012,6 +1012,7 @@ fn help_names_every_field_of_the_json() {
         ("map", &[svg.to_str().unwrap()]),
         ("place", &["64K"]),
         ("compare", &[copy]),
+        ("compare", &[copy, "--tables"]),
         ("report", &[copy, page.to_str().unwrap()]),
         ("mkdir", &["new"]),
         ("add", &["new/file"]),
@@ -1049,6 +1050,7 @@ fn check_tells_what_of_a_table_no_lookup_sees() {
     assert!(none.is_empty(), "{none:?}");
     assert!(told.at("stored_parents").list().is_empty() && told.at("notes").list().is_empty());
     assert_eq!(told.at("rewrite_alters_at"), &Json::Null);
+    assert_eq!(told.at("rewrite_alters_bytes").number(), 0);
     let good = fs::read(&image).unwrap();
     let size = get(&good, 0x428) as usize;
     // Entry 12 is text/en/, which lies in 11; entry 14 is text/fr/.
@@ -1060,14 +1062,19 @@ fn check_tells_what_of_a_table_no_lookup_sees() {
     assert_eq!(parents.len(), 2, "{parents:?}");
     let words = "entry 12, /text/en/, stores 9 as its parent, and lies in entry 11; so it is with 1 more folder";
     assert!(parents[0].starts_with(words), "{parents:?}");
-    let words =
-        format!("would alter it, first at {:#x}, the stored parent of entry 12", FST + 12 * 12 + 7);
-    assert!(parents[1].ends_with(&words), "{parents:?}");
+    // 9 for 11 is a byte, and 0xFFFFFFFF for 11 are four.
+    let words = format!(
+        "a rewrite would alter 5 bytes of the table, first at {:#x}, the stored parent of entry 12; every edit that \
+         writes the table writes it anew",
+        FST + 12 * 12 + 7
+    );
+    assert_eq!(parents[1], words);
     let wrong = told.at("stored_parents").list();
     assert_eq!(wrong.len(), 2);
     assert_eq!((wrong[1].at("stored").number(), wrong[1].at("parent").number()), (0xFFFF_FFFF, 11));
     assert_eq!(wrong[1].at("path").text(), "/text/fr/");
     assert_eq!(told.at("rewrite_alters_at").number(), (FST + 12 * 12 + 7) as u64);
+    assert_eq!(told.at("rewrite_alters_bytes").number(), 5);
     // The root's own.
     let mut bytes = good.clone();
     put(&mut bytes, FST, 0x0100_0003);
@@ -1085,7 +1092,12 @@ fn check_tells_what_of_a_table_no_lookup_sees() {
         "3 bytes of the table's texts, all zero, are of no entry's name, the first at {:#x}",
         FST + size
     );
-    assert_eq!(unused[0], words);
+    let size_alone = format!(
+        "a rewrite would alter no byte of the table, but its size, {} -> {size} bytes; every edit that writes the table \
+         writes it anew",
+        size + 3
+    );
+    assert_eq!(unused, [words, size_alone]);
     assert_eq!(
         (told.at("unused_texts").number(), told.at("unused_texts_at").number()),
         (3, (FST + size) as u64)
@@ -1113,7 +1125,7 @@ fn every_answer_in_json_has_its_status() {
     let [copy, out, svg, page] =
         ["copy.iso", "out", "map.svg", "page.html"].map(|name| temp.at(name));
     let [copy, out, svg, page] = [&copy, &out, &svg, &page].map(|path| path.to_str().unwrap());
-    let answers: [(&str, &[&str]); 15] = [
+    let answers: [(&str, &[&str]); 16] = [
         ("info", &[]),
         ("list", &[]),
         ("tree", &[]),
@@ -1127,6 +1139,7 @@ fn every_answer_in_json_has_its_status() {
         ("map", &[svg]),
         ("check", &[]),
         ("compare", &[copy]),
+        ("compare", &[copy, "--tables"]),
         ("report", &[copy, page]),
         ("recover", &[]),
     ];
@@ -1355,18 +1368,6 @@ fn the_sums_of_public_databases_are_told() {
     let run = on("compare", &sums, &[image.to_str().unwrap()]);
     assert_eq!(run.status, 0, "{}{}", run.out, run.err);
     assert!(!done("hash", &image, &[]).contains("# md5"));
-}
-
-/// The names of all fields, of what is inside too.
-fn fields(json: &Json) -> Vec<String> {
-    match json {
-        Json::Object(all) => all
-            .iter()
-            .flat_map(|(name, value)| [vec![name.clone()], fields(value)].concat())
-            .collect(),
-        Json::List(items) => items.iter().flat_map(fields).collect(),
-        _ => Vec::new(),
-    }
 }
 
 #[test]

@@ -103,7 +103,7 @@ any-words image w words e =
     let r = first-passed (check (table_of image) w) _ q.1 in
     ⊎_elim (λ (o : check (table_of image) words ≡ Ok tt). inl (rw (p.0, q.0, o) r.1)) (λ (o : check (table_of image) words ≡ Err LimitOrMemory). inr (rw (p.0, q.0, o))) (any-check (table_of image) w words r.0)
 
-more-limits : (nodes : List Node) (w w' : ℕ) → w ≤ w' → limits nodes w ≡ Ok tt → limits nodes w' ≡ Ok tt
+pub more-limits : (nodes : List Node) (w w' : ℕ) → w ≤ w' → limits nodes w ≡ Ok tt → limits nodes w' ≡ Ok tt
 more-limits nodes w w' h e =
     let i = within-limits nodes w e in
     limits-within nodes w' (record { few = i.few; texts = i.texts; room = omega (arith, i.room); depth = i.depth })

@@ -747,6 +747,18 @@ impl Json {
     }
 }
 
+/// The names of all fields, of what is inside too.
+pub fn fields(json: &Json) -> Vec<String> {
+    match json {
+        Json::Object(all) => all
+            .iter()
+            .flat_map(|(name, value)| [vec![name.clone()], fields(value)].concat())
+            .collect(),
+        Json::List(items) => items.iter().flat_map(fields).collect(),
+        _ => Vec::new(),
+    }
+}
+
 struct Reader<'a> {
     rest: &'a str,
 }

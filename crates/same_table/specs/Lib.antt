@@ -1,0 +1,3 @@
+pub mod Trees
+pub mod Unread
+pub mod Theorem
