@@ -2147,6 +2147,107 @@ def tables(s):
         s.lend(0x1000, 0x1000)
 
 
+# ---- one tree, one table: `/a/a/ba` and its images. As an edit writes it the table has 0x37 bytes.
+
+WRITTEN = directory(0, 0, 4) + directory(0, 0, 4) + directory(2, 1, 4) + file(4, 0x500, 0x100) + b"a\0a\0ba\0"
+SHARINGS = (("no name is shared", b"a\0a\0ba\0", (0, 2, 4)), ("equal names are shared", b"a\0ba\0", (0, 0, 2)),
+            ("names are the end of another", b"ba\0", (1, 1, 0)), ("texts in another order", b"ba\0a\0a\0", (5, 3, 0)),
+            ("slack before, between and behind", b"zz\0a\0q\0a\0\0ba\0slack\0", (3, 7, 10)))
+PARENTS = ((0, 0, 1), (0, 0, 0), (7, 2, 1), (MOST, MOST, MOST))
+
+
+def one_tree(sharing, parents=PARENTS[0], root=0, at=0x500):
+    _, texts, names = sharing
+    records = directory(root, parents[0], 4) + directory(names[0], parents[1], 4) + directory(names[1], parents[2], 4)
+    return records + file(names[2], at, 0x100) + texts
+
+
+def one_table(s, table, fst=0x440):
+    """The table that stands there is this one."""
+    assert s.bytes_at(0x424, 8) == word(fst) + word(len(table)) and s.bytes_at(fst, len(table)) == table
+    s.peek(fst, len(table))
+
+
+def rewritten(s, table, fst=0x440):
+    """A rewrite writes this table, and a second one alters nothing."""
+    s.edit("rewrite")
+    one_table(s, table, fst)
+    before = s.oracle.checksum()
+    s.edit("rewrite", note="a second one")
+    assert s.oracle.checksum() == before
+
+
+def one_tree_rewritten(s):
+    s.lend(0x1000, 0x1000)
+    for sharing in SHARINGS:
+        new_image(s, f"one tree, and {sharing[0]}; then other stored parents, and a name offset of the root", 0x2000, one_tree(sharing),
+                  files=[(0x500, 0x100)])
+        rewritten(s, WRITTEN)
+        left = [s.oracle.checksum()]
+        for parents, root in zip(PARENTS[1:], (0, 2, 0xFFFFFF)):
+            s.load()
+            for number, parent in enumerate(parents):
+                if parent != PARENTS[0][number]:
+                    s.patch(0x444 + 12 * number, word(parent))
+            if root:
+                s.patch(0x441, word(root)[1:])
+            rewritten(s, WRITTEN)
+            left.append(s.oracle.checksum())
+        assert left == left[:1] * 4, "bytes that no call reads have an influence"
+    for fst, sharing in [(0x44B, SHARINGS[2]), (0x480, SHARINGS[4]), (0x4C9, SHARINGS[3])]:
+        new_image(s, f"the same tree with its table at {n(fst)}, and {sharing[0]}", 0x2000, one_tree(sharing, PARENTS[2], 1), fst=fst,
+                  files=[(0x500, 0x100)])
+        rewritten(s, WRITTEN, fst)
+
+
+def one_tree_edited(s):
+    """Two of its images: the shortest texts, which grow, and texts with slack, which get shorter."""
+    a, ba = directory(2, 1, 4), file(4, 0x500, 0x100)
+    of_file = lambda at, size: WRITTEN[:0x28] + word(at) + word(size) + WRITTEN[0x30:]
+    edits = [
+        ("insert_file", (1, b"c"), directory(0, 0, 5) * 2 + a + ba + file(7, 0, 0) + b"a\0a\0ba\0c\0"),
+        ("insert_directory", (2, b"ba."), directory(0, 0, 5) * 2 + directory(2, 1, 5) + ba + directory(7, 2, 5) + b"a\0a\0ba\0ba.\0"),
+        ("make_directories", (0, b"a/./a/../a"), WRITTEN),
+        ("make_directories", (1, b"a/x/y"), directory(0, 0, 6) * 2 + directory(2, 1, 6) + ba + directory(7, 2, 6) + directory(9, 4, 6)
+         + b"a\0a\0ba\0x\0y\0"),
+        ("move", (3, 0x1000), of_file(0x1000, 0x100)), ("resize", (3, 0x80), of_file(0x500, 0x80)), ("resize", (3, 0), of_file(0x500, 0)),
+        ("replace", (3, b"clip"), of_file(0x500, 4)), ("resize", (3, 0x180), of_file(0x500, 0x180))]
+    for parents, sharing in [(PARENTS[3], SHARINGS[2]), (PARENTS[1], SHARINGS[4])]:
+        new_image(s, f"one tree, and {sharing[0]}: edits of it", 0x2000, one_tree(sharing, parents, 1), files=[(0x500, 0x100)])
+        for name, arguments, table in edits:
+            s.load()
+            s.edit(name, *arguments)
+            one_table(s, table)
+
+
+def one_tree_refused(s):
+    """The file lies right behind the written table: one image has room for it, the other has not, and may lack memory too."""
+    for fst, sharing in [(0x440, SHARINGS[0]), (0x440, SHARINGS[1]), (0x444, SHARINGS[2])]:
+        table = one_tree(sharing, at=0x477)
+        new_image(s, f"one tree, its table at {n(fst)}, and {sharing[0]}: a file at 0x477", 0x2000, table, fst=fst, files=[(0x477, 0x100)])
+        if fst == 0x440:
+            rewritten(s, WRITTEN.replace(word(0x500), word(0x477)))
+        else:
+            s.edit("rewrite")
+        state(s, 0x36)
+        above(s, "rewrite")
+        s.lend(0x1000, 0x36)
+        s.edit("rewrite", rules=9, why="one working byte too few")
+        s.lend(0x1000, 0x1000)
+
+
+def one_tree_grown_apart(s):
+    """Not of a growth that looks for a place: the tables end at 0x7000 and at 0x9000."""
+    table = directory(0, 0, 3) + file(0, 0x20000, 0x10) + file(2, 0x20010, 0x10) + b"a\0b\0"
+    for end, place in [(0x7000, 0x8000), (0x9000, 0x10000)]:
+        fst = end - len(table)
+        new_image(s, f"two files, the first of which has to grow elsewhere; the table ends at {n(end)}", 0x20020, table, fst=fst,
+                  files=[(0x20000, 0x10), (0x20010, 0x10)])
+        rewritten(s, table, fst)
+        s.edit("resize", 1, 0x20, note=f"goes to {n(place)}")
+        one_table(s, table[:0x10] + word(place) + word(0x20) + table[0x18:], fst)
+
+
 # ---- Japanese names. What the Rust's codec turns back into equal bytes is the Rust's to answer; the oracle skips the rest.
 
 LEAD = "a lead byte without its trail"
@@ -2397,6 +2498,7 @@ def make(oracle):
             ("edits", (small_master, memory, places, spoiled_master, grown_over, half_done, empty_files, equal_rests, nested, disc_ends, far_table,
                        game_names, unopened, limits, inserts, names, made, deep, limits_of_inserts, chain)),
             ("reading", (with_changes, lookups, clusters, headers, fields)), ("windows", (windows, reads, executables)), ("tables", (tables,)),
+            ("same_table", (one_tree_rewritten, one_tree_edited, one_tree_refused, one_tree_grown_apart)),
             ("listing", (listings,)), ("program", (none_named, before_table, behind_table, abutting, unread)),
             ("names", (names_opened, names_shared, names_looked_up, names_edited, names_that_do_not_come_back)),
             ("fills", (filled, memory_of_fills, fills_elsewhere, fills_and_the_table, fills_of_unopened, fills_beside_the_program)),

@@ -15,7 +15,7 @@ fn every_call_of_every_script() {
         assert!(outcome.differ.is_empty(), "{}", outcome.differ.join("\n"));
         calls += outcome.calls;
     }
-    assert_eq!(calls, 10635, "all of them, so that none is lost");
+    assert_eq!(calls, 10763, "all of them, so that none is lost");
 }
 
 /// A script that a program of this folder puts together is as it does.

@@ -305,7 +305,7 @@ const PARTS: [&[u8]; 21] = [
 ];
 
 /// A path below `start`: of an entry, with detours, or made of parts.
-fn path(r: &mut Random, tree: Option<&Tree>, start: u32, lookup: bool) -> Vec<u8> {
+pub fn path(r: &mut Random, tree: Option<&Tree>, start: u32, lookup: bool) -> Vec<u8> {
     let mut parts: Vec<Vec<u8>> = vec![];
     if let Some(tree) = tree.filter(|t| (start as usize) < t.entries.len()) {
         let target = r.below(tree.entries.len());

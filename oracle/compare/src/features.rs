@@ -398,6 +398,191 @@ pub fn of_turn(tree: &Tree, call: &Call, account: &Account, answer: &str) -> Vec
     ])
 }
 
+/// What stands out about an image of a class: how its texts lie, and the bytes that no call reads.
+pub fn of_texts(image: &[u8], tree: &Tree) -> Vec<&'static str> {
+    let at = tree.fst_offset as usize;
+    let (start, end) = (at + 12 * tree.entries.len(), tree.table_end() as usize);
+    let names = rules::names(image);
+    let mut spans: Vec<(usize, usize)> = names.iter().map(|name| (name.start, name.end)).collect();
+    spans.sort();
+    spans.dedup();
+    let apart = spans.len() == names.len();
+    // The same zero byte ends both.
+    let ends = spans.iter().any(|(a, end)| spans.iter().any(|(b, other)| a != b && end == other));
+    let back = names.windows(2).any(|two| two[1].start < two[0].start);
+    let (mut covered, mut between) = (spans.first().map_or(start, |span| span.0), false);
+    for (start, end) in &spans {
+        between |= *start > covered;
+        covered = covered.max(end + 1);
+    }
+    let stored = |number: usize| word(image, at + 12 * number + 4) as usize;
+    let wrong = |number: &usize| {
+        let entry = &tree.entries[*number];
+        entry.directory && stored(*number) != entry.parent
+    };
+    let root = word(image, at) & 0xff_ffff;
+    of(&[
+        (apart && !ends && !back && !names.is_empty(), "pairs: texts as they are written"),
+        (!apart, "pairs: equal names share a text"),
+        (ends, "pairs: a name is the end of another's text"),
+        (apart && !ends && back, "pairs: texts in another order"),
+        (spans.first().is_some_and(|span| span.0 > start), "pairs: slack before the texts"),
+        (between, "pairs: slack between them"),
+        (covered < end, "pairs: slack behind them"),
+        (begins_inside(image), "pairs: a name begins inside a pair of another"),
+        (!(0..tree.entries.len()).any(|number| wrong(&number)), "pairs: stored parents are right"),
+        ((1..tree.entries.len()).any(|number| wrong(&number)), "pairs: a stored parent is not"),
+        (wrong(&0), "pairs: the root's is not"),
+        (root > 0, "pairs: the root has a name offset"),
+        (root as usize >= end - start, "pairs: the root has one past the texts"),
+    ])
+}
+
+/// What stands out about a class of images, and their tree.
+pub fn of_class(trees: &[&Tree]) -> Vec<&'static str> {
+    let (first, entries) = (trees[0], &trees[0].entries);
+    let differ = |of: fn(&Tree) -> u64| trees.iter().any(|tree| of(tree) != of(first));
+    let directories: Vec<usize> = (1..entries.len()).filter(|k| entries[*k].directory).collect();
+    let ends = |next: u32| directories.iter().filter(|k| entries[**k].size == next).count();
+    let name = |k: usize| &entries[k].name;
+    let end_of_other = |k: usize| {
+        let longer = |j: usize| name(j).len() > name(k).len() && name(j).ends_with(name(k));
+        (1..entries.len()).any(longer)
+    };
+    let in_table = |tree: &&Tree| {
+        let table = tree.fst_offset..tree.table_end();
+        let mut files = entries.iter().filter(|entry| !entry.directory && entry.size == 0);
+        files.any(|file| table.contains(&(file.offset as u64)))
+    };
+    let program = |tree: &&Tree| tree.program.is_some();
+    of(&[
+        (entries.len() == 1, "pairs: a class with the root alone"),
+        (entries.len() > 100, "pairs: a class with more than 100 entries"),
+        (trees.len() == 2, "pairs: two images of one tree"),
+        (trees.len() == 6, "pairs: six images of one tree"),
+        (directories.iter().any(|k| first.depth(*k) == 64), "pairs: a directory 64 deep"),
+        (
+            directories
+                .iter()
+                .any(|k| entries[*k].parent > 0 && entries[*k].size as usize == k + 1),
+            "pairs: an empty directory in another",
+        ),
+        (
+            directories.iter().any(|k| ends(entries[*k].size) > 2),
+            "pairs: three directories end together",
+        ),
+        ((1..entries.len() as u32).any(|k| first.is_twin(k)), "pairs: equal names in a directory"),
+        ((1..entries.len()).any(end_of_other), "pairs: a name is the end of another"),
+        (
+            (1..entries.len()).any(|k| rules::units(name(k)).any(|unit| unit.len() == 2)),
+            "pairs: a name with a pair",
+        ),
+        (
+            trees.iter().any(in_table) && !trees.iter().all(in_table),
+            "pairs: an empty file lies in the table of one, and not of all",
+        ),
+        (differ(|tree| tree.fst_offset), "pairs: tables in two places"),
+        (differ(|tree| tree.fst_size), "pairs: tables of two sizes"),
+        (
+            trees.iter().enumerate().any(|(i, tree)| {
+                let place = (tree.fst_offset, tree.fst_size);
+                trees[..i].iter().any(|other| (other.fst_offset, other.fst_size) == place)
+            }),
+            "pairs: two tables of one place and size",
+        ),
+        (differ(|tree| tree.disc_end), "pairs: discs of two sizes"),
+        (
+            trees.iter().any(program) && !trees.iter().all(program),
+            "pairs: a program on one, and not on all",
+        ),
+    ])
+}
+
+/// What stands out about an edit of a class, by what each of its images is answered, and where a file goes
+/// that gets more bytes.
+pub fn of_one_table(call: &Call, told: &[(&Tree, &str, u32)]) -> Vec<&'static str> {
+    let accepted: Vec<_> = told.iter().filter(|told| told.1.starts_with("ok")).collect();
+    let Some((tree, _, place)) = accepted.first() else { return vec![] };
+    let refused = |answer: &str| told.iter().any(|told| told.1 == answer);
+    let mut met = of(&[
+        (refused("err 9"), "pairs: accepted of one image, 9 of another"),
+        (refused("err 21"), "pairs: accepted of one image, 21 of another"),
+        (refused("err 26"), "pairs: accepted of one image, 26 of another"),
+        (refused("err 25"), "pairs: accepted of one image, 25 of another"),
+        (
+            refused("err 15") || refused("err 27") || refused("err 28"),
+            "pairs: accepted of one team, 15, 27 or 28 of another",
+        ),
+    ]);
+    if accepted.len() < 2 || keeps_size(tree, call) {
+        return met;
+    }
+    let file = call.target().map(|number| &tree.entries[number as usize]);
+    let size = |file: Option<&Entry>| file.map_or(0, |file| file.size as u64);
+    let two_places = || accepted.iter().any(|(_, _, other)| other != place);
+    met.push(match (call, call.resizes()) {
+        (Call::Rewrite, _) => "pairs: one table, of a rewrite",
+        (Call::InsertFile(..), _) => "pairs: one table, with a new file",
+        (Call::InsertDirectory(..), _) => "pairs: one table, with a new directory",
+        (Call::MakeDirectories(..), _) => match New::of(tree, call) {
+            Some(new) if new.entries > tree.entries.len() => "pairs: one table, directories made",
+            _ => "pairs: one table, of a path that is all there",
+        },
+        (_, Some((_, 0))) => "pairs: one table, a file cut to nothing",
+        (_, Some((_, new))) if new < size(file) && call.fills() => {
+            "pairs: one table, a file filled with less"
+        }
+        (_, Some((_, new))) if new < size(file) => "pairs: one table, a file cut",
+        (_, Some(_)) if two_places() => "pairs: a growth in two places",
+        (_, Some(_)) if file.is_some_and(|file| file.offset == *place) => {
+            "pairs: one table, of a growth where it is"
+        }
+        (_, Some(_)) => "pairs: one table, of a growth elsewhere",
+        _ if size(file) == 0 => "pairs: one table, an empty file moved",
+        _ => "pairs: one table, a file moved",
+    });
+    let alike = |a: &Tree, b: &Tree| {
+        a.disc_end == b.disc_end && a.behind().is_none() && b.behind().is_none()
+    };
+    let by_tables = |(a, _, one): &(&Tree, &str, u32)| {
+        accepted.iter().any(|(b, _, other)| one != other && alike(a, b))
+    };
+    let elsewhere = |told: &(&Tree, &str, u32)| file.is_some_and(|file| file.offset != told.2);
+    let written = |tree: &Tree| {
+        tree.entries.len() as u64 * 12 + New::of(tree, call).map_or(0, |new| new.texts as u64)
+    };
+    let is = |of: fn(&u64, &u64) -> bool| {
+        accepted.iter().any(|(tree, ..)| of(&written(tree), &tree.fst_size))
+    };
+    let along_twins = || {
+        let Call::MakeDirectories(_, path) = call else { return false };
+        let twin = |k: &u32| tree.entries[*k as usize].directory && tree.is_twin(*k);
+        let name = |k: u32| &tree.entries[k as usize].name[..];
+        let twins = (1..tree.entries.len() as u32).filter(twin);
+        let twins: Vec<&[u8]> = twins.map(name).collect();
+        rules::components(path).iter().any(|part| twins.contains(part))
+    };
+    let growth = met.last() == Some(&"pairs: a growth in two places");
+    met.extend(of(&[
+        (
+            growth && accepted.iter().any(|told| by_tables(told)),
+            "pairs: a growth in two places, by where the tables end alone",
+        ),
+        (
+            growth && !accepted.iter().all(|told| elsewhere(told)),
+            "pairs: a growth where it is, and elsewhere",
+        ),
+        (along_twins(), "pairs: one table, along a name that two directories have"),
+        (is(u64::gt) && is(u64::lt), "pairs: one table gets longer, and another shorter"),
+        (
+            accepted.iter().any(|told| told.0.fst_offset != tree.fst_offset),
+            "pairs: one table, in two places",
+        ),
+        (accepted.len() == 6 && told.len() == 6, "pairs: one table, of six images"),
+    ]));
+    met
+}
+
 /// What stands out about the maximum that an image states, and a call on it that is answered `expected`,
 /// with so many working bytes lent.
 pub fn of_maximum(tree: &Tree, call: &Call, expected: &str, bytes: usize) -> Vec<&'static str> {

@@ -12,6 +12,8 @@ mod ledger;
 mod masters;
 mod maxima;
 mod names;
+mod pair_rules;
+mod pairs;
 mod programs;
 mod random;
 mod records;
@@ -31,9 +33,9 @@ use sample::Sample;
 use std::process::exit;
 use std::time::Instant;
 
-const SUITES: [&str; 13] = [
-    "limits", "numbers", "fills", "records", "teams", "steps", "maxima", "programs", "names",
-    "tables", "trees", "wishes", "random",
+const SUITES: [&str; 14] = [
+    "limits", "numbers", "fills", "records", "teams", "steps", "pairs", "maxima", "programs",
+    "names", "tables", "trees", "wishes", "random",
 ];
 
 struct Options {
@@ -194,6 +196,7 @@ fn main() {
             "records" => records::records(&mut run),
             "teams" => teams::teams(&mut run, options.seed, options.images),
             "steps" => steps::steps(&mut run, options.seed, options.images),
+            "pairs" => pairs::pairs(&mut run, options.seed, options.images),
             "maxima" => maxima::maxima(&mut run),
             "programs" => programs::programs(&mut run),
             "names" => names::names(&mut run),

@@ -4,7 +4,7 @@ use crate::names;
 use crate::random::Random;
 use crate::rules::{self, GAMECUBE, WII, set_word, word};
 
-const NAMES: [&[u8]; 20] = [
+pub const NAMES: [&[u8]; 20] = [
     b"a",
     b"b",
     b"ab",
@@ -75,7 +75,7 @@ fn nesting(r: &mut Random, n: usize) -> Vec<Record> {
     records
 }
 
-fn find(texts: &[u8], wanted: &[u8]) -> Option<usize> {
+pub fn find(texts: &[u8], wanted: &[u8]) -> Option<usize> {
     texts.windows(wanted.len()).position(|at| at == wanted)
 }
 
@@ -122,18 +122,18 @@ fn texts(r: &mut Random, records: &mut [Record]) -> (Vec<u8>, Vec<usize>) {
 
 /// A program: its offset, the file size that its header tells, and its length.
 #[derive(Clone, Copy)]
-struct Program {
-    at: u64,
-    size: u64,
+pub struct Program {
+    pub at: u64,
+    pub size: u64,
 }
 
 impl Program {
-    fn length(&self) -> u64 {
+    pub fn length(&self) -> u64 {
         self.size.max(rules::DOL_HEADER)
     }
 }
 
-fn program(r: &mut Random) -> Program {
+pub fn program(r: &mut Random) -> Program {
     let size = match r.below(8) {
         0 => 0,
         1 => r.within(1, 0xe2),
@@ -267,7 +267,7 @@ fn set_sum(r: &mut Random, dol: &mut [u8], i: usize, sum: u64) {
 }
 
 /// A DOL header that tells this file size; what else it holds is any number.
-fn dol_header(r: &mut Random, dol: &mut [u8], size: u64) {
+pub fn dol_header(r: &mut Random, dol: &mut [u8], size: u64) {
     let largest = r.below(18);
     for i in 0..18 {
         let sum = match r.below(4) {
@@ -284,7 +284,7 @@ fn dol_header(r: &mut Random, dol: &mut [u8], size: u64) {
     }
 }
 
-fn header(r: &mut Random, image: &mut [u8]) {
+pub fn header(r: &mut Random, image: &mut [u8]) {
     if word(image, 0x18) == WII {
         image[0x18] ^= 1;
     }

@@ -554,6 +554,12 @@ impl Tree {
             .find(|k| self.entries[*k].parent == directory && self.entries[*k].name == name)
     }
 
+    /// Whether an entry before this one has its name, in the same directory.
+    pub fn is_twin(&self, number: u32) -> bool {
+        let entry = &self.entries[number as usize];
+        number > 0 && self.child(entry.parent, &entry.name) != Some(number as usize)
+    }
+
     /// `max_region_size` in whole numbers.
     pub fn most(&self, offset: u64, size: u64) -> u64 {
         if let Some((_, size)) = self.free.iter().find(|(at, _)| *at == offset) {

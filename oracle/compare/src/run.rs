@@ -357,7 +357,7 @@ pub struct Taken {
     pub account: Account,
     made: bool,
     before: usize,
-    after: usize,
+    pub after: usize,
 }
 
 /// A call that was asked, and where in the batch its answers are.
@@ -367,8 +367,8 @@ pub struct Asked {
     pub words: usize,
     pub bytes: usize,
     pub probe: usize,
-    oracle: usize,
-    twin: Option<usize>,
+    pub oracle: usize,
+    pub twin: Option<usize>,
     pub taken: Option<Taken>,
     /// Asked once more with another record; the list goes on from the other one.
     again: bool,
@@ -1179,7 +1179,7 @@ fn cut(text: &str) -> String {
 }
 
 /// Two names take turns: an edit's result is saved beside what it was made from.
-fn other(name: &str) -> String {
+pub fn other(name: &str) -> String {
     let (stem, turn) = name.split_at(name.len() - 1);
     format!("{stem}{}", if turn == "a" { "b" } else { "a" })
 }
@@ -1205,7 +1205,7 @@ fn ask_look(lines: &mut Batch, i: usize, case: &mut Case, call: Call) -> Asked {
     ask_look_with(lines, i, case, call, [words, bytes], account.map(Take::set))
 }
 
-fn ask_look_with(
+pub fn ask_look_with(
     lines: &mut Batch,
     i: usize,
     case: &mut Case,

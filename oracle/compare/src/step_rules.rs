@@ -3,7 +3,7 @@
 
 use crate::calls::Call;
 use crate::judge::{keeps_size, new_place};
-use crate::rules::{self, Tree, set_word};
+use crate::rules::{self, Entry, Tree, set_word};
 use std::ops::Range;
 
 /// Where the header states the table's size.
@@ -26,10 +26,10 @@ fn bytes((offset, size): Place) -> Range<usize> {
     offset as usize..(offset + size) as usize
 }
 
-/// The table of a tree, laid out anew.
-fn encode(tree: &Tree) -> Vec<u8> {
+/// The table of these entries, laid out anew.
+pub fn encode(entries: &[Entry]) -> Vec<u8> {
     let (mut records, mut texts) = (vec![], vec![]);
-    for (number, entry) in tree.entries.iter().enumerate() {
+    for (number, entry) in entries.iter().enumerate() {
         let name = if number == 0 { 0 } else { texts.len() as u32 };
         let first = if entry.directory { entry.parent as u32 } else { entry.offset };
         for word in [u32::from(entry.directory) << 24 | name, first, entry.size] {
@@ -50,7 +50,7 @@ impl Parts {
         let entry = &tree.entries[file];
         let from = (entry.offset as u64, entry.size as u64);
         let table = (!keeps_size(tree, call))
-            .then(|| encode(&Self { file, from, to, table: None }.tree(tree)));
+            .then(|| encode(&Self { file, from, to, table: None }.tree(tree).entries));
         Some(Self { file, from, to, table })
     }
 

@@ -858,8 +858,8 @@ fn random(run: &mut Run, seed: u64, images: u64) {
     }
 }
 
-/// An edit of this kind, which half of the time is one that has a place.
-fn edit(r: &mut Random, tree: &Tree, kind: usize) -> Call {
+/// A move (`kind` 0) or a resize (1), which half of the time is one that has a place.
+pub fn edit(r: &mut Random, tree: &Tree, kind: usize) -> Call {
     let files = (1..tree.entries.len()).filter(|number| !tree.entries[*number].directory);
     let files: Vec<usize> = files.collect();
     if files.is_empty() || r.chance(50) {
