@@ -2193,7 +2193,7 @@ def one_tree_rewritten(s):
                 s.patch(0x441, word(root)[1:])
             rewritten(s, WRITTEN)
             left.append(s.oracle.checksum())
-        assert left == left[:1] * 4, "bytes that no call reads have an influence"
+        assert left == left[:1] * 4, "bytes that no edit reads have an influence"
     for fst, sharing in [(0x44B, SHARINGS[2]), (0x480, SHARINGS[4]), (0x4C9, SHARINGS[3])]:
         new_image(s, f"the same tree with its table at {n(fst)}, and {sharing[0]}", 0x2000, one_tree(sharing, PARENTS[2], 1), fst=fst,
                   files=[(0x500, 0x100)])

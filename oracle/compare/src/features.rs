@@ -398,7 +398,7 @@ pub fn of_turn(tree: &Tree, call: &Call, account: &Account, answer: &str) -> Vec
     ])
 }
 
-/// What stands out about an image of a class: how its texts lie, and the bytes that no call reads.
+/// What stands out about an image of a class: how its texts lie, and the bytes that no edit reads.
 pub fn of_texts(image: &[u8], tree: &Tree) -> Vec<&'static str> {
     let at = tree.fst_offset as usize;
     let (start, end) = (at + 12 * tree.entries.len(), tree.table_end() as usize);

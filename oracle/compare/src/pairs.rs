@@ -383,7 +383,7 @@ fn edit(r: &mut Random, codec: &Codec, tree: &Tree, length: usize, inserts: bool
     }
 }
 
-/// Bytes that no call reads, put over those of an image: stored parents, and the root's name offset.
+/// Bytes that no edit reads, put over those of an image: stored parents, and the root's name offset.
 fn unread(r: &mut Random, tree: &Tree) -> Vec<String> {
     let directories = (0..tree.entries.len()).filter(|k| tree.entries[*k].directory);
     let directories: Vec<usize> = directories.collect();
@@ -438,7 +438,7 @@ fn ask_behind(
     Behind { size, table, again: ask(Call::Rewrite.line()), hash: ask("hash".into()) }
 }
 
-/// The same edit of an image with other bytes where no call reads them: the hash before it, the answer, and
+/// The same edit of an image with other bytes where no edit reads them: the hash before it, the answer, and
 /// the hash behind it.
 struct Variant {
     patches: Vec<String>,
@@ -676,7 +676,7 @@ impl Run {
         self.met(cases.iter().filter(|(is, _)| *is).map(|(_, met)| *met).collect());
     }
 
-    /// The edit of an image with other bytes where no call reads them.
+    /// The edit of an image with other bytes where no edit reads them.
     fn hold_unread(
         &mut self,
         case: &Case,
@@ -709,7 +709,7 @@ impl Run {
             let mut lines = image_lines(case.image());
             lines.extend(variant.patches.clone());
             lines.extend(lent(asked, asked.taken.map(|taken| taken.account)));
-            let what = "pairs: an edit by bytes that no call reads";
+            let what = "pairs: an edit by bytes that no edit reads";
             let now = &more[variant.ours[1]];
             self.fault(what, &lines, &asked.call.line(), answers[1], now, answers[0]);
             return;
