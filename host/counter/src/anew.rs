@@ -2,29 +2,40 @@
 //! copy.
 
 use crate::account::Turn;
-use crate::call::{Call, Wish};
+use crate::call::{Call, Wish, refused};
 use crate::cause::cause;
 use crate::change::Change;
 use crate::disc::{Disc, table_anew};
-use crate::failure::{Failure, INTERNAL, Outcome};
+use crate::failure::{Failure, INPUT_OUTPUT, INTERNAL, Outcome};
 use crate::image::{Desk, Image};
 use crate::json::Json;
 use crate::record::fresh;
-use crate::stored::{first_difference, what_lies_at};
+use crate::stored::{self, Departure, departure, first_difference, what_lies_at};
 use crate::text::{counted, grouped};
-use crate::trial::try_out;
+use crate::trial::{Trial, try_out};
 
 pub struct Anew {
     /// The table that a rewrite writes, or the number with which a limit refuses it (9).
     pub table: Result<Vec<u8>, u32>,
-    /// What a rewrite alters, or why it is refused: then nothing is altered.
-    pub rewrite: Result<Altered, Refusal>,
+    /// Where the table as it is begins to be another, and what lies there.
+    departs: Option<(u64, String)>,
+    rewrite: Rewrite,
+}
+
+/// What becomes of a rewrite.
+enum Rewrite {
+    Done(Altered),
+    /// Nothing is altered: the number, and more in words.
+    Refused(u32, String),
+    /// No private copy is to be had: why.
+    Untried(String),
 }
 
 /// What a rewrite alters of an image, whose only other bytes that it writes are the table's size in the header.
-pub struct Altered {
-    /// How many bytes are others afterwards, from the table's start to where the longer table ends, the old or the
-    /// new. Behind a shorter old table they are the image's as they are, behind a shorter new one zeros.
+struct Altered {
+    /// How many bytes are others afterwards, from the table's start to the end of the longer table, old or new. They are
+    /// the image's: behind a shorter old table those that lie there, behind a shorter new one zeros. So where zeros
+    /// stand behind the names, the first lies behind the place where the table departs, or there is none.
     bytes: usize,
     /// Where the first of them is, and what lies there.
     first: Option<(u64, String)>,
@@ -32,79 +43,77 @@ pub struct Altered {
     sizes: (u32, u32),
 }
 
-/// A refused rewrite: the number, and more in words.
-pub struct Refusal {
-    number: u32,
-    detail: Option<String>,
-}
-
 impl Anew {
     pub fn read(image: &Image, desk: &mut Desk, disc: &Disc) -> Outcome<Anew> {
-        let table = table_anew(image, desk);
-        let turn = Turn { account: fresh(image, desk)?, team: 0 };
-        let rewrite = match try_out(&Wish::Rewrite, &Call::Rewrite, image, desk, disc, turn) {
-            Ok(trial) if !writes(&trial.change, &table) => return Err(not_as_told(image)),
-            Ok(trial) => Ok(altered(&trial.change)),
-            Err(Failure::Refused { number, detail, .. }) => Err(Refusal { number, detail }),
-            Err(other) => return Err(other),
+        let (table, fst) = (table_anew(image, desk), disc.fst());
+        let departs = match departure(image, fst, &table) {
+            Departure::At(at) => {
+                Some((at, what_lies_at(at, fst.0.into(), stored::table(image, fst))))
+            }
+            Departure::None | Departure::Refused(_) => None,
         };
-        Ok(Anew { table, rewrite })
+        let rewrite = match &table {
+            Ok(table) => tried(table, image, desk, disc)?,
+            Err(number) => refusal(refused(&Wish::Rewrite, *number))?,
+        };
+        Ok(Anew { table, departs, rewrite })
+    }
+
+    pub fn alters_nothing(&self) -> bool {
+        matches!(&self.rewrite, Rewrite::Done(altered) if altered.is_nothing())
     }
 
     /// What an editor should know of it.
-    pub fn note(&self) -> Option<String> {
-        match &self.rewrite {
-            Ok(altered) if altered.is_nothing() => None,
-            Ok(altered) => Some(format!(
-                "a rewrite would alter {}; every edit that writes the table writes it anew",
-                altered.words()
-            )),
+    pub fn notes(&self) -> Vec<String> {
+        let told = match &self.rewrite {
+            Rewrite::Done(_) if self.alters_nothing() => return Vec::new(),
+            Rewrite::Done(_) => {
+                let anew = "every edit that writes the table writes it anew";
+                return vec![format!("{}; {anew}", self.words())];
+            }
             // That is told with the maximum.
-            Err(Refusal { number: 26, .. }) => None,
-            Err(refusal) => Some(format!(
-                "a rewrite, and every edit that writes the table, is refused {} ({}): {}",
-                refusal.number,
-                cause(refusal.number).unwrap_or_default(),
-                self.why(refusal)
+            Rewrite::Refused(26, _) => None,
+            Rewrite::Refused(number, why) => Some(format!(
+                "a rewrite, and every edit that writes the table, is refused {number} ({}): {why}",
+                cause(*number).unwrap_or_default()
             )),
-        }
-    }
-
-    fn why(&self, refusal: &Refusal) -> String {
-        match (refusal.number, &self.table) {
-            (9, _) => "with no name shared it would pass the limits of a table".into(),
-            (21, Ok(table)) => format!(
-                "with no name shared it has {}, and what lies behind it leaves no room for them",
-                counted(table.len(), "byte", "bytes")
-            ),
-            _ => refusal.detail.clone().unwrap_or_default(),
-        }
+            Rewrite::Untried(_) => Some(self.words()),
+        };
+        let departs = self.departs.as_ref().map(|(at, what)| {
+            format!("what a rewrite would write differs from the table first at {at:#x}, {what}")
+        });
+        departs.into_iter().chain(told).collect()
     }
 
     /// What becomes of the image, in words.
     pub fn words(&self) -> String {
         match &self.rewrite {
-            Ok(altered) if altered.is_nothing() => "a rewrite would alter nothing".into(),
-            Ok(altered) => format!("a rewrite would alter {}", altered.words()),
-            Err(Refusal { number, detail }) => {
-                let more = detail.as_ref().map_or(String::new(), |more| format!(" ({more})"));
+            Rewrite::Done(_) if self.alters_nothing() => "a rewrite would alter nothing".into(),
+            Rewrite::Done(altered) => format!("a rewrite would alter {}", altered.words()),
+            Rewrite::Refused(number, why) => {
                 let cause = cause(*number).unwrap_or_default();
-                format!("a rewrite is refused {number}: {cause}{more}; the table stays as it is")
+                format!("a rewrite is refused {number}: {cause} ({why}); the table stays as it is")
             }
+            Rewrite::Untried(why) => format!("a rewrite could not be tried: {why}"),
         }
     }
 
     pub fn fields(&self) -> Vec<(&'static str, Json)> {
-        let altered = self.rewrite.as_ref().ok();
-        let refusal = self.rewrite.as_ref().err();
-        let first = altered.and_then(|altered| altered.first.as_ref());
+        let (altered, refusal, detail) = match &self.rewrite {
+            Rewrite::Done(altered) => (Some(altered), None, None),
+            Rewrite::Refused(number, why) => (None, Some(*number), Some(why)),
+            Rewrite::Untried(why) => (None, None, Some(why)),
+        };
+        let at = |place: &Option<(u64, String)>| place.as_ref().map(|(at, _)| *at);
         vec![
+            ("rewrite_alters_at", at(&self.departs).into()),
+            ("rewrite_refused", self.table.as_ref().err().copied().into()),
             ("rewrite_alters_bytes", altered.map(|altered| altered.bytes).into()),
-            ("rewrite_alters_at", first.map(|(at, _)| *at).into()),
+            ("rewrite_first_altered", altered.and_then(|altered| at(&altered.first)).into()),
             ("rewrite_size", self.table.as_ref().ok().map(Vec::len).into()),
-            ("rewrite_refused", refusal.map(|refusal| refusal.number).into()),
-            ("rewrite_cause", refusal.and_then(|refusal| cause(refusal.number)).into()),
-            ("rewrite_detail", refusal.and_then(|refusal| refusal.detail.clone()).into()),
+            ("rewrite_refusal", refusal.into()),
+            ("rewrite_cause", refusal.and_then(cause).into()),
+            ("rewrite_detail", detail.cloned().into()),
         ]
     }
 }
@@ -118,7 +127,7 @@ impl Altered {
         let (old, new) = self.sizes;
         let sizes = format!("its size, {} -> {} bytes", grouped(old.into()), grouped(new.into()));
         let Some((at, what)) = &self.first else {
-            return format!("no byte of the table, but {sizes}");
+            return format!("no byte of the table, only {sizes}");
         };
         let bytes = counted(self.bytes, "byte", "bytes");
         let size = if old == new { String::new() } else { format!(", and {sizes}") };
@@ -137,13 +146,31 @@ fn altered(change: &Change) -> Altered {
     }
 }
 
-/// Whether the table that is written is the one that was told.
-fn writes(change: &Change, table: &Result<Vec<u8>, u32>) -> bool {
-    let written = &change.new[..change.new_size as usize];
-    table.as_ref().is_ok_and(|table| table == written)
+/// The rewrite that is to write this table.
+fn tried(table: &[u8], image: &Image, desk: &mut Desk, disc: &Disc) -> Outcome<Rewrite> {
+    let turn = Turn { account: fresh(image, desk)?, team: 0 };
+    match try_out(&Wish::Rewrite, &Call::Rewrite, image, desk, disc, turn) {
+        Ok(Trial { change, .. }) if change.new[..change.new_size as usize] == *table => {
+            Ok(Rewrite::Done(altered(&change)))
+        }
+        Ok(_) => {
+            let text = format!("{}: libcounter writes another table than it tells", image.name);
+            Err(Failure::error(INTERNAL, text))
+        }
+        Err(Failure::Error { status: INPUT_OUTPUT, text }) => Ok(Rewrite::Untried(text)),
+        Err(failure @ Failure::Refused { number: 21, .. }) => refusal(failure.because(format!(
+            "with no name shared the table has {}, and what lies behind it leaves no room for them",
+            counted(table.len(), "byte", "bytes")
+        ))),
+        Err(failure) => refusal(failure),
+    }
 }
 
-fn not_as_told(image: &Image) -> Failure {
-    let text = format!("{}: libcounter writes another table than it tells", image.name);
-    Failure::error(INTERNAL, text)
+fn refusal(failure: Failure) -> Outcome<Rewrite> {
+    match failure {
+        Failure::Refused { number, detail, .. } => {
+            Ok(Rewrite::Refused(number, detail.unwrap_or_default()))
+        }
+        other => Err(other),
+    }
 }

@@ -153,7 +153,7 @@ pub fn table(new: &Layout, bytes: &[u8], was: Was) -> Area {
         (Was::Same, _) => Area::new(NAME),
         (_, Departure::None) => Area { status: ANEW, ..Area::new(NAME) },
         (Was::Differs(at), Departure::At(anew)) if at == anew => {
-            let more = format!("{}; a rewrite writes that otherwise, too", lies(at));
+            let more = format!("{}; what a rewrite writes differs there, too", lies(at));
             Area::changed(NAME, Some(at), more)
         }
         (Was::Differs(at), _) => Area::changed(NAME, Some(at), format!("{}; {rewrite}", lies(at))),

@@ -624,11 +624,12 @@ An image too short for a header ends compare with 65, since 1 says that somethin
 refusal ends it with its own number.
 With --tables the trees and tables of two images are compared, and no file's bytes are read. It tells whether both \
 have the same tree (the entries' names, order, kinds and folders, the files' offsets and sizes) or where they first \
-have not; whether their tables are the same bytes now; whether the tables that a rewrite writes of them are, which is \
-so exactly where the trees are the same; and of each what a rewrite alters: how many bytes from the table's start to \
-where the longer one ends, the old or the new, and the table's size. A rewrite is tried on a private copy; one that is \
-refused is told with its cause, and leaves the table as it is. Exit status 0 if the trees are the same, 1 if they are \
-not, whatever becomes of the tables.";
+have not; whether their tables are the same bytes now; whether the tables that a rewrite would write of them are, \
+which is so exactly where the trees are the same; and of each what a rewrite would alter: how many bytes become others, \
+of those from the table's start to the end of the longer table, old or new, and the table's size. A rewrite is tried on \
+a private copy, and where there is no memory for one, that is told; one that is refused is told with its cause, and \
+leaves the table as it is. Exit status 0 if the trees are the same (78 with --as-is, if an edit of one was cut), 1 if \
+they are not, whatever becomes of the tables.";
 
 const MANIFEST: &str = "\
 A line for each file, as sha256sum writes it: the sum, two spaces, the path. Everything else is on \

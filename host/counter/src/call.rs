@@ -208,6 +208,9 @@ pub fn refused(wish: &Wish, number: u32) -> Failure {
     let failure = Failure::refused(number, wish.words());
     match (number, wish) {
         (9, Wish::MakeFolders(path)) if path.len() > MOST_PATH => failure.because(TOO_LONG),
+        (9, Wish::Rewrite) => {
+            failure.because("with no name shared the table would pass its limits")
+        }
         (9, _) => failure.because("more entries, bytes of names or levels than a table may have"),
         (12 | 13, _) => match wish.trouble(number) {
             Some(trouble) => failure.because(trouble),
@@ -228,7 +231,7 @@ pub fn refused(wish: &Wish, number: u32) -> Failure {
             "it cannot grow where it lies, and no free place on a multiple of 0x8000 is that long, \
              or the table has no room; see `counter free`",
         ),
-        (21, _) => failure.because("something lies right behind the table"),
+        (21, _) => failure.because("what lies behind the table leaves no room for a larger one"),
         _ => failure,
     }
 }

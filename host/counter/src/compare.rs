@@ -15,7 +15,7 @@ use crate::out::say;
 use crate::progress::Progress;
 use crate::save::{save, vacant};
 use crate::sha256::{Sum, hex};
-use crate::stored::first_difference;
+use crate::stored::{self, first_difference};
 use crate::text::{counted, grouped};
 use std::collections::{HashMap, HashSet};
 use std::fmt::Write as _;
@@ -85,15 +85,18 @@ impl Pair {
         Ok(Pair { before, image, after, names })
     }
 
-    /// Those of which an edit was cut, so that they hold a part of it, maybe.
     pub fn cut(&self) -> Vec<&str> {
         let before = match &self.before {
             Before::Image(image, _) => image.is_cut(),
             Before::Manifest(manifest) => manifest.cut,
         };
-        let sides = [(before, &self.names.0), (self.image.is_cut(), &self.names.1)];
-        sides.into_iter().filter(|(cut, _)| *cut).map(|(_, name)| name.as_str()).collect()
+        cut([(before, &self.names.0), (self.image.is_cut(), &self.names.1)])
     }
+}
+
+/// The names of those of which an edit was cut, so that they hold a part of it, maybe.
+pub fn cut(sides: [(bool, &str); 2]) -> Vec<&str> {
+    sides.into_iter().filter(|(cut, _)| *cut).map(|(_, name)| name).collect()
 }
 
 fn opened(path: &Path) -> Outcome<(Image, Layout)> {
@@ -429,10 +432,7 @@ impl Pair {
         let first = |(at, size): (u64, u64)| bytes.first(at, at, size);
         let mut areas = header(given, |field| first((field.at as u64, field.size as u64)));
         areas.push(system(old, new, &first));
-        let tables = [(image, old), (&self.image, new)].map(|(image, layout)| {
-            let (at, size) = (layout.fst.0 as usize, layout.fst.1 as usize);
-            &image.bytes()[at..at + size]
-        });
+        let tables = [stored::table(image, old.fst), stored::table(&self.image, new.fst)];
         let at = first_difference(tables[0], tables[1]);
         let was = at.map(|at| u64::from(new.fst.0) + at as u64);
         areas.push(table(new, tables[1], was.map_or(Was::Same, Was::Differs)));
@@ -516,8 +516,7 @@ impl Pair {
             _ if old.fst.1 == new.fst.1 && differs(TABLE).is_none() => Was::Same,
             _ => Was::Other,
         };
-        let (at, size) = (new.fst.0 as usize, new.fst.1 as usize);
-        areas.push(table(new, &self.image.bytes()[at..at + size], was));
+        areas.push(table(new, stored::table(&self.image, new.fst), was));
         let behind = old.behind().map_or((0, 0), |at| (at.offset.into(), at.size.into()));
         let program = program(old, new, given, &|_| differs(PROGRAM));
         areas.extend(program.map(|area| area.by_sum(behind)));

@@ -181,6 +181,11 @@ impl Disc {
         Ok(())
     }
 
+    /// The table's offset and size.
+    pub fn fst(&self) -> (u32, u32) {
+        (self.opened.fst_offset, self.opened.fst_size)
+    }
+
     /// Whether every path is kept.
     pub fn has_paths(&self) -> bool {
         self.named

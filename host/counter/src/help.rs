@@ -237,7 +237,8 @@ const FIELDS: &[(&str, &str)] = &[
          after{ENTRY}} same_tables same_rewritten tables{before{entries fst_offset fst_size REWRITE} \
          after{entries fst_offset fst_size REWRITE}}; difference: the first entry that differs, or null; parts: name \
          kind folder offset size, or none where one image ends before that entry, which is null there; same_tables: \
-         as they are now; same_rewritten: as a rewrite writes them, null where a limit refuses one (9)",
+         as they are now; same_rewritten: as a rewrite would write them, refused for room or the maximum (21, 26) or \
+         not; null where a limit refuses one (9)",
     ),
     ("report", COMPARED),
     ("mkdir", EDITED),
@@ -313,11 +314,16 @@ fn json(forms: &[Form]) -> String {
     }
     if forms.iter().any(|form| ["check", "compare"].contains(&form.name)) {
         out.push_str(
-            "  REWRITE  rewrite_alters_bytes rewrite_alters_at rewrite_size, and rewrite_refused rewrite_cause\n\
-             \x20          rewrite_detail. What a rewrite alters: how many bytes from the table's start to where the\n\
-             \x20          longer table ends, the old or the new, and the first of them (0 and null if none); the size\n\
-             \x20          of the table that it writes, or null where a limit refuses that (9). And number and words\n\
-             \x20          of a refused one, or null: then it alters nothing, and the first two are null\n",
+            "  REWRITE  rewrite_alters_at rewrite_refused rewrite_alters_bytes rewrite_first_altered rewrite_size\n\
+             \x20          rewrite_refusal rewrite_cause rewrite_detail; rewrite_alters_at: where the table begins to be\n\
+             \x20          another than a rewrite would write (where one of both ends, too), or null; rewrite_refused: 9\n\
+             \x20          where a limit refuses that table, else null; rewrite_alters_bytes: how many bytes become\n\
+             \x20          others, of those from the table's start to the end of the longer table, old or new;\n\
+             \x20          rewrite_first_altered: the first of them, or null; rewrite_size: of the table that it would\n\
+             \x20          write, null where a limit refuses that (9). rewrite_refusal (9, 21, 26), rewrite_cause and\n\
+             \x20          rewrite_detail: of a refused one, else null. A refused one alters nothing, and\n\
+             \x20          rewrite_alters_bytes and rewrite_first_altered are null. They are, too, where there is no\n\
+             \x20          memory to try one; rewrite_detail says so then\n",
         );
     }
     if forms.iter().any(|form| ["info", "tree", "free"].contains(&form.name)) {

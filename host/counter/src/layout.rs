@@ -1,6 +1,6 @@
 //! How a disc is laid out, from an image or from a manifest: what is compared, and what maps show.
 
-use crate::disc::{Disc, Kind, not_opened};
+use crate::disc::{Disc, Kind, not_opened, table_anew};
 use crate::failure::Outcome;
 use crate::header::Header;
 use crate::image::{Desk, Image};
@@ -72,8 +72,8 @@ impl Layout {
             game: game.trim().to_string(),
             bytes: image.bytes().len() as u64,
             disc_end: disc.opened.disc_end,
-            fst: (disc.opened.fst_offset, disc.opened.fst_size),
-            departure: departure(image, desk, disc),
+            fst: disc.fst(),
+            departure: departure(image, disc.fst(), &table_anew(image, desk)),
             program: Program::read(image, desk, &disc.opened)?,
             free: disc.free.clone(),
             records: records.collect(),

@@ -283,7 +283,7 @@ pub fn check(args: &Args) -> Outcome<()> {
     let mut notes: Vec<String> = maximum.note().into_iter().collect();
     notes.extend(trouble::nkit(image.bytes()).map(String::from));
     notes.extend(stored.notes());
-    notes.extend(anew.note());
+    notes.extend(anew.notes());
     let alike = alike(&disc);
     if !disc.has_paths() {
         notes.push(
@@ -331,6 +331,9 @@ pub fn check(args: &Args) -> Outcome<()> {
         human(space.free_bytes()),
         human(disc.opened.disc_end.into())
     );
+    if anew.alters_nothing() {
+        let _ = writeln!(text, "{}", anew.words());
+    }
     for note in notes {
         let _ = writeln!(text, "note: {note}");
     }

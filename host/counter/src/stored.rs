@@ -1,8 +1,8 @@
 //! The table as it is stored, held against what a rewrite of its tree writes: opening goes by the nesting, so
 //! stored parents, name offsets and texts that no entry uses may be anything.
 
-use crate::disc::{Disc, Node, table_anew};
-use crate::image::{Desk, Image};
+use crate::disc::{Disc, Node};
+use crate::image::Image;
 use crate::json::{self, Json};
 use crate::names;
 use crate::text::counted;
@@ -10,10 +10,10 @@ use crate::text::counted;
 /// Bytes of an entry.
 const ENTRY: usize = 12;
 
-/// The table as it is.
-pub fn table<'a>(image: &'a Image, disc: &Disc) -> &'a [u8] {
-    let (fst, size) = (disc.opened.fst_offset as usize, disc.opened.fst_size as usize);
-    image.bytes().get(fst..).and_then(|rest| rest.get(..size)).unwrap_or_default()
+/// The table as it is, by its offset and size.
+pub fn table(image: &Image, (fst, size): (u32, u32)) -> &[u8] {
+    let rest = image.bytes().get(fst as usize..).unwrap_or_default();
+    rest.get(..size as usize).unwrap_or_default()
 }
 
 /// Where two tables differ first, if they do; one that ends before the other differs there.
@@ -23,7 +23,8 @@ pub fn first_difference(a: &[u8], b: &[u8]) -> Option<usize> {
     at.or((a.len() != b.len()).then_some(common))
 }
 
-/// Where in the image the table begins to be another than a rewrite of its tree writes.
+/// Where in the image the table begins to be another than a rewrite of its tree writes. It is held against that
+/// table, its size too, and not against the bytes that follow it: one that ends before the other departs there.
 #[derive(Clone, Copy, PartialEq, Eq)]
 pub enum Departure {
     /// It is exactly that.
@@ -33,12 +34,12 @@ pub enum Departure {
     Refused(u32),
 }
 
-pub fn departure(image: &Image, desk: &mut Desk, disc: &Disc) -> Departure {
-    let at = table_anew(image, desk).map(|anew| first_difference(table(image, disc), &anew));
-    match at {
+/// Of the table at this place, held against the one written anew.
+pub fn departure(image: &Image, fst: (u32, u32), anew: &Result<Vec<u8>, u32>) -> Departure {
+    match anew.as_ref().map(|anew| first_difference(table(image, fst), anew)) {
         Ok(None) => Departure::None,
-        Ok(Some(at)) => Departure::At(u64::from(disc.opened.fst_offset) + at as u64),
-        Err(number) => Departure::Refused(number),
+        Ok(Some(at)) => Departure::At(u64::from(fst.0) + at as u64),
+        Err(&number) => Departure::Refused(number),
     }
 }
 
@@ -83,7 +84,7 @@ pub struct Stored {
 
 impl Stored {
     pub fn read(image: &Image, disc: &Disc) -> Stored {
-        let table = table(image, disc);
+        let table = table(image, disc.fst());
         let stored = |node: &Node| word(table, ENTRY * node.number as usize + 4);
         let folders = disc.nodes.iter().skip(1).filter(|node| node.is_directory());
         let wrong = folders.filter(|node| stored(node) != node.parent);

@@ -3,7 +3,7 @@
 
 use crate::anew::Anew;
 use crate::args::Args;
-use crate::compare::{cut_words, one_of_two, two_files};
+use crate::compare::{cut, cut_words, one_of_two, two_files};
 use crate::disc::{Disc, Kind, Node};
 use crate::failure::{CUT, Failure, INTERNAL, Outcome};
 use crate::image::Image;
@@ -11,7 +11,7 @@ use crate::json::{self, Json};
 use crate::manifest::is_manifest;
 use crate::names::{self, for_terminal, shown};
 use crate::out::say;
-use crate::stored::table;
+use crate::stored;
 use crate::text::counted;
 use crate::tree::node_fields;
 use std::path::Path;
@@ -19,7 +19,7 @@ use std::path::Path;
 pub fn compare(args: &Args) -> Outcome<u8> {
     fits(args)?;
     let before = args.image.as_deref().expect("BEFORE");
-    let found = Comparison::read(before, &args.path(0))?;
+    let found = Masters::read(before, &args.path(0))?;
     let out = match args.json {
         true => found.json().document().into_bytes(),
         false => found.text(),
@@ -57,7 +57,7 @@ impl Side {
     }
 
     fn table(&self) -> &[u8] {
-        table(&self.image, &self.disc)
+        stored::table(&self.image, self.disc.fst())
     }
 
     fn nodes(&self) -> &[Node] {
@@ -69,19 +69,19 @@ impl Side {
     }
 }
 
-struct Comparison {
+struct Masters {
     before: Side,
     after: Side,
     /// None where both have the same tree.
     difference: Option<Difference>,
 }
 
-impl Comparison {
-    fn read(before: &Path, after: &Path) -> Outcome<Comparison> {
+impl Masters {
+    fn read(before: &Path, after: &Path) -> Outcome<Masters> {
         for path in [before, after] {
             if is_manifest(path) {
                 let path = names::file(path);
-                let text = format!("{path}: a manifest; --tables compares those of two images");
+                let text = format!("{path}: a manifest; --tables wants two images");
                 return Err(Failure::usage(text));
             }
         }
@@ -93,7 +93,7 @@ impl Comparison {
         });
         let (before, after) = (before?, after?);
         let difference = difference(&before, &after);
-        let found = Comparison { before, after, difference };
+        let found = Masters { before, after, difference };
         found.holds_together()?;
         Ok(found)
     }
@@ -126,16 +126,15 @@ impl Comparison {
         }
     }
 
-    /// Those of which an edit was cut, so that they hold a part of it, maybe.
-    fn cut(&self) -> impl Iterator<Item = &str> {
-        self.sides().into_iter().filter(|side| side.image.is_cut()).map(Side::name)
+    fn cut(&self) -> Vec<&str> {
+        cut(self.sides().map(|side| (side.image.is_cut(), side.name())))
     }
 
     fn status(&self) -> u8 {
-        match (&self.difference, self.cut().next()) {
+        match (&self.difference, self.cut().is_empty()) {
             (Some(_), _) => 1,
-            (None, Some(_)) => CUT,
-            (None, None) => 0,
+            (None, false) => CUT,
+            (None, true) => 0,
         }
     }
 }
@@ -191,7 +190,7 @@ fn sizes(same: bool, sizes: [usize; 2]) -> String {
     }
 }
 
-impl Comparison {
+impl Masters {
     fn text(&self) -> Vec<u8> {
         let mut out = self.trees();
         let now = sizes(self.same_now(), self.sides().map(|side| side.table().len()));
@@ -199,7 +198,7 @@ impl Comparison {
         for side in self.sides() {
             lines.push(format!("{}: {}", side.name(), side.anew.words()));
         }
-        lines.extend(self.cut().map(cut_words));
+        lines.extend(self.cut().into_iter().map(cut_words));
         lines.push("only trees and tables were compared: no file's bytes were read".into());
         for line in lines {
             out.extend([for_terminal(&line).as_bytes(), b"\n"].concat());
@@ -235,21 +234,20 @@ impl Comparison {
 
     /// Of the tables written anew.
     fn anew(&self) -> String {
-        const ANEW: &str = "tables as a rewrite writes them:";
-        let tables = self.sides().map(|side| side.anew.table.as_ref().map(Vec::len));
-        match (tables, self.same_anew()) {
-            ([Ok(one), Ok(other)], Some(same)) => format!("{ANEW} {}", sizes(same, [one, other])),
-            ([Err(number), Err(_)], _) => format!("{ANEW} none, a limit refuses both ({number})"),
-            ([one, other], _) => {
-                let name = if one.is_err() { self.before.name() } else { self.after.name() };
-                let number = one.err().or(other.err()).unwrap_or(&0);
-                format!("{ANEW} none of {name}, which a limit refuses ({number})")
-            }
-        }
+        let none = |side: &Side, number| {
+            format!("none of {}, which a limit refuses ({number})", side.name())
+        };
+        let words = match self.sides().map(|side| side.anew.table.as_ref()) {
+            [Ok(a), Ok(b)] => sizes(a == b, [a.len(), b.len()]),
+            [Err(number), Err(_)] => format!("none, a limit refuses both ({number})"),
+            [Err(number), Ok(_)] => none(&self.before, number),
+            [Ok(_), Err(number)] => none(&self.after, number),
+        };
+        format!("tables as a rewrite would write them: {words}")
     }
 
     fn json(&self) -> Json {
-        let cut = self.cut().map(Json::from).collect();
+        let cut = self.cut().into_iter().map(Json::from).collect();
         let tables = vec![("before", of_table(&self.before)), ("after", of_table(&self.after))];
         Json::Object(vec![
             ("status", u32::from(self.status()).into()),

@@ -626,6 +626,11 @@ fn a_table_is_as_it_was_or_written_anew_or_told() {
             assert!(line.starts_with("changed          (table: "), "{line}");
             assert!(line.ends_with("  [NOT GIVEN]"), "{line}");
             assert!(line.contains(&format!("at {first:#x}, {words}")), "{i} {first:#x}: {line}");
+            assert_eq!(
+                line.contains("; what a rewrite writes differs there, too"),
+                !manifest,
+                "{line}"
+            );
         }
         let told = pair.json();
         let areas = told.at("areas").list();

@@ -1073,7 +1073,9 @@ fn check_tells_what_of_a_table_no_lookup_sees() {
     assert_eq!(wrong.len(), 2);
     assert_eq!((wrong[1].at("stored").number(), wrong[1].at("parent").number()), (0xFFFF_FFFF, 11));
     assert_eq!(wrong[1].at("path").text(), "/text/fr/");
-    assert_eq!(told.at("rewrite_alters_at").number(), (FST + 12 * 12 + 7) as u64);
+    for name in ["rewrite_alters_at", "rewrite_first_altered"] {
+        assert_eq!(told.at(name).number(), (FST + 12 * 12 + 7) as u64);
+    }
     assert_eq!(told.at("rewrite_alters_bytes").number(), 5);
     // The root's own.
     let mut bytes = good.clone();
@@ -1093,11 +1095,15 @@ fn check_tells_what_of_a_table_no_lookup_sees() {
         FST + size
     );
     let size_alone = format!(
-        "a rewrite would alter no byte of the table, but its size, {} -> {size} bytes; every edit that writes the table \
+        "a rewrite would alter no byte of the table, only its size, {} -> {size} bytes; every edit that writes the table \
          writes it anew",
         size + 3
     );
     assert_eq!(unused, [words, size_alone]);
+    // The table departs there, and no byte is altered.
+    assert_eq!(told.at("rewrite_alters_at").number(), (FST + size) as u64);
+    assert_eq!(told.at("rewrite_first_altered"), &Json::Null);
+    assert_eq!(told.at("rewrite_alters_bytes").number(), 0);
     assert_eq!(
         (told.at("unused_texts").number(), told.at("unused_texts_at").number()),
         (3, (FST + size) as u64)
@@ -1449,6 +1455,7 @@ fn names_without_end_do_not_eat_the_machine() {
     let told = json("check", &image, &[]);
     assert_eq!(told.at("rewrite_alters_at"), &Json::Null);
     assert_eq!(told.at("rewrite_refused").number(), 9);
+    assert_eq!(told.at("rewrite_refusal").number(), 9);
     for args in [&["tree"][..], &["list", "--json"]] {
         let run = on(args[0], &image, &args[1..]);
         assert_eq!(run.status, 65, "{args:?}");

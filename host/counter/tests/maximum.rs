@@ -427,7 +427,7 @@ fn a_limit_comes_before_the_maximum() {
 
 /// The notes of `check`, but for those of the table as it is stored.
 fn of_the_maximum(notes: &str) -> String {
-    const OTHERS: [&str; 3] = ["would alter ", "table's texts", "is refused 9"];
+    const OTHERS: [&str; 4] = ["would alter ", "would write ", "table's texts", "is refused 9"];
     let other = |line: &&str| OTHERS.iter().any(|words| line.contains(words));
     notes.split_inclusive('\n').filter(|line| !other(line)).collect()
 }

@@ -5,6 +5,7 @@ mod support;
 
 use std::fs;
 use std::path::{Path, PathBuf};
+use std::process::Command;
 use support::*;
 
 /// Kind and name offset, offset or parent, size or next.
@@ -79,6 +80,9 @@ fn maybe(number: Option<u64>) -> Json {
     number.map_or(Json::Null, |number| Json::Number(number as f64))
 }
 
+/// What `check` tells behind its first line of a table as a rewrite writes it. That is no note.
+const NOTHING: &str = "\na rewrite would alter nothing\n";
+
 const LAST: &str = "only trees and tables were compared: no file's bytes were read\n";
 
 /// One of the images with the same tree: how its rewrite is told.
@@ -89,6 +93,14 @@ struct Form {
     bytes: u64,
     first: Option<u64>,
     words: &'static str,
+}
+
+impl Form {
+    /// Where the table begins to be another than the one of 69 bytes: where zeros stand behind the names, at their end,
+    /// although a rewrite leaves them as they are.
+    fn departs(&self) -> Option<u64> {
+        if self.size > SIZE { Some(0x485) } else { self.first }
+    }
 }
 
 /// The same tree in every form: shared texts, texts of no entry, false parents, elsewhere on the disc.
@@ -131,7 +143,7 @@ fn altered(form: &Form) -> String {
     let bytes = if form.bytes == 1 { "byte" } else { "bytes" };
     let size = match form.size {
         SIZE => String::new(),
-        size if form.bytes == 0 => format!(", but its size, {size} -> 69 bytes"),
+        size if form.bytes == 0 => format!(", only its size, {size} -> 69 bytes"),
         size => format!(", and its size, {size} -> 69 bytes"),
     };
     match form.words {
@@ -159,7 +171,7 @@ fn the_same_tree_is_the_same_table_written_anew() {
         };
         let wanted = format!(
             "{name} and {0} have the same tree: 5 entries, with the same names, order, kinds, folders, offsets and \
-             sizes\ntables now: {now}\ntables as a rewrite writes them: the same, 69 bytes\n{name}: a rewrite would \
+             sizes\ntables now: {now}\ntables as a rewrite would write them: the same, 69 bytes\n{name}: a rewrite would \
              alter nothing\n{0}: a rewrite would alter {1}\n{LAST}",
             other.display(),
             altered(form)
@@ -171,12 +183,13 @@ fn the_same_tree_is_the_same_table_written_anew() {
         let [one, two] = ["before", "after"].map(|side| told.at("tables").at(side));
         assert_eq!(one.at("rewrite_alters_bytes").number(), 0);
         assert_eq!(two.at("rewrite_alters_bytes").number(), form.bytes, "{i}");
-        assert_eq!(*two.at("rewrite_alters_at"), maybe(form.first), "{i}");
+        assert_eq!(*two.at("rewrite_first_altered"), maybe(form.first), "{i}");
+        assert_eq!(*two.at("rewrite_alters_at"), maybe(form.departs()), "{i}");
         let numbers = ["entries", "fst_offset", "fst_size", "rewrite_size"];
         let fst = get(&form.image, 0x424).into();
         let wanted = [5, fst, form.size.into(), SIZE.into()];
         assert_eq!(numbers.map(|name| two.at(name).number()), wanted, "{i}");
-        for name in ["rewrite_refused", "rewrite_cause", "rewrite_detail"] {
+        for name in ["rewrite_refused", "rewrite_refusal", "rewrite_cause", "rewrite_detail"] {
             assert_eq!(*two.at(name), Json::Null);
         }
         // The other way round.
@@ -196,16 +209,19 @@ fn check_counts_what_a_rewrite_alters() {
         let image = temp.write("image.iso", &form.image);
         let told = json("check", &image, &[]);
         assert_eq!(told.at("rewrite_alters_bytes").number(), form.bytes, "{i}");
-        assert_eq!(*told.at("rewrite_alters_at"), maybe(form.first), "{i}");
+        assert_eq!(*told.at("rewrite_first_altered"), maybe(form.first), "{i}");
+        assert_eq!(*told.at("rewrite_alters_at"), maybe(form.departs()), "{i}");
         assert_eq!(told.at("rewrite_size").number(), SIZE.into());
         assert_eq!(*told.at("rewrite_refused"), Json::Null);
+        assert_eq!(*told.at("rewrite_refusal"), Json::Null);
         let text = done("check", &image, &[]);
         let note = format!(
             "note: a rewrite would alter {}; every edit that writes the table writes it anew\n",
             altered(form)
         );
         assert_eq!(text.contains(&note), form.words != "nothing", "{i}: {text}");
-        assert_eq!(text.contains("a rewrite would alter"), form.words != "nothing", "{i}: {text}");
+        assert_eq!(text.matches("a rewrite would").count(), 1, "{i}: {text}");
+        assert_eq!(text.ends_with(NOTHING), form.words == "nothing", "{i}: {text}");
         done("rewrite", &image, &[]);
         let after = fs::read(&image).unwrap();
         assert_eq!(differing(&form.image, &after), (form.bytes, form.first), "{i}");
@@ -214,7 +230,8 @@ fn check_counts_what_a_rewrite_alters() {
         assert_eq!(after[fst..][..69], wanted[0x440..0x485], "{i}");
         let told = json("check", &image, &[]);
         assert_eq!(told.at("rewrite_alters_bytes").number(), 0, "{i}");
-        assert!(!done("check", &image, &[]).contains("note:"), "{i}");
+        let text = done("check", &image, &[]);
+        assert!(text.ends_with(NOTHING) && text.lines().count() == 2, "{i}: {text}");
     }
 }
 
@@ -277,7 +294,7 @@ fn differ(temp: &Temp, entries: &[Entry], texts: &[u8], wanted: First) {
         );
         assert!(run.out.starts_with(&start), "{}", run.out);
         assert!(
-            run.out.contains("\ntables as a rewrite writes them: not the same, "),
+            run.out.contains("\ntables as a rewrite would write them: not the same, "),
             "{}",
             run.out
         );
@@ -395,18 +412,40 @@ fn nothing_but_trees_and_tables_is_compared() {
 
 // A rewrite that is refused ---------------------------------------------------------------
 
-/// One of the sides, and the note of `check`.
-fn refusal(image: &Path, told: &Json, number: i32, cause: &str) -> Option<String> {
-    refused(image, &["rewrite"], number);
-    for side in [told, &json("check", image, &[])] {
-        assert_eq!(side.at("rewrite_refused").number() as i32, number);
+/// One of the sides, and the notes of `check` about a rewrite. They are of one mind: number, cause and detail. And where
+/// the table departs, or the limit, is told as of a rewrite that is not refused.
+fn refusal(image: &Path, told: &Json, number: u64, cause: &str, departs: Option<u64>) -> String {
+    refused(image, &["rewrite"], number as i32);
+    let limit = (number == 9).then_some(number);
+    let check = json("check", image, &[]);
+    for side in [told, &check] {
+        assert_eq!(side.at("rewrite_refusal").number(), number);
         assert_eq!(side.at("rewrite_cause").text(), cause);
-        assert!(!side.at("rewrite_detail").text().is_empty());
+        assert_eq!(*side.at("rewrite_detail"), *check.at("rewrite_detail"));
         assert_eq!(*side.at("rewrite_alters_bytes"), Json::Null);
-        assert_eq!(*side.at("rewrite_alters_at"), Json::Null);
+        assert_eq!(*side.at("rewrite_first_altered"), Json::Null);
+        assert_eq!(*side.at("rewrite_alters_at"), maybe(departs));
+        assert_eq!(*side.at("rewrite_refused"), maybe(limit));
     }
     let text = done("check", image, &[]);
-    text.lines().find(|line| line.starts_with("note: a rewrite")).map(String::from)
+    assert!(!text.contains("would alter"), "{text}");
+    let detail = check.at("rewrite_detail").text();
+    let words =
+        format!("every edit that writes the table, is refused {number} ({cause}): {detail}\n");
+    // The maximum's own note tells it already.
+    assert_eq!(text.contains(&words), number != 26, "{text}");
+    text.lines()
+        .filter(|line| line.contains("a rewrite"))
+        .map(|line| [line, "\n"].concat())
+        .collect()
+}
+
+/// Of the shared texts: the table's name offset 1 of entry 1, where 0 is written.
+fn note_1(fst: u64) -> String {
+    let at = fst + 15;
+    format!(
+        "note: what a rewrite would write differs from the table first at {at:#x}, the name offset of entry 1\n"
+    )
 }
 
 #[test]
@@ -419,7 +458,7 @@ fn a_maximum_that_refuses_a_rewrite_is_told() {
         let two = temp.write("two.iso", &bytes);
         let (run, told) = compared(&one, &two);
         assert_eq!(run.status, 0, "{}", run.out);
-        let anew = "\ntables as a rewrite writes them: the same, 69 bytes\n";
+        let anew = "\ntables as a rewrite would write them: the same, 69 bytes\n";
         assert!(run.out.contains(anew), "{}", run.out);
         let side = told.at("tables").at("after");
         assert_eq!(side.at("rewrite_size").number(), 69);
@@ -432,9 +471,10 @@ fn a_maximum_that_refuses_a_rewrite_is_told() {
         assert_eq!(run.out.contains(&words), refuses, "{}", run.out);
         assert_eq!(run.out.contains("); the table stays as it is\n"), refuses, "{}", run.out);
         match refuses {
-            // The maximum's own note tells it already.
             true => {
-                assert_eq!(refusal(&two, side, 26, "new table above the maximum"), None);
+                let cause = "new table above the maximum";
+                let notes = refusal(&two, side, 26, cause, Some(0x44F));
+                assert!(notes.ends_with(&note_1(0x440)), "{notes}");
                 let text = done("check", &two, &[]);
                 let note = "with no name shared, has 69 bytes, ";
                 assert!(text.contains(note) && text.contains("is refused\n"), "{text}");
@@ -460,15 +500,26 @@ fn a_file_that_leaves_no_room_for_a_rewrite_is_told() {
         assert_eq!(run.status, 0, "{}", run.out);
         assert!(told.at("same_rewritten").flag());
         let side = told.at("tables").at("after");
+        let why = "with no name shared the table has 69 bytes, and what lies behind it leaves no room for them";
         let words = format!(
-            "\n{}: a rewrite is refused 21: no space (something lies right behind the table); the table stays as it is\n",
+            "\n{}: a rewrite is refused 21: no space ({why}); the table stays as it is\n",
             two.display()
         );
         assert_eq!(run.out.contains(&words), refuses, "{}", run.out);
-        let note = "note: a rewrite, and every edit that writes the table, is refused 21 (no space): with no name \
-                    shared it has 69 bytes, and what lies behind it leaves no room for them";
+        let note = format!(
+            "note: a rewrite, and every edit that writes the table, is refused 21 (no space): {why}\n"
+        );
         match refuses {
-            true => assert_eq!(refusal(&two, side, 21, "no space").as_deref(), Some(note)),
+            true => {
+                let notes = refusal(&two, side, 21, "no space", Some(0x46F));
+                assert_eq!(notes, [note_1(0x460), note].concat());
+                // Of the edits themselves: what lies there may be some bytes behind the table.
+                for edit in [&["rewrite"][..], &["mkdir", "d"], &["add", "d"]] {
+                    let words = "21: no space (what lies behind the table leaves no room for a larger one)\n";
+                    let run = on(edit[0], &two, &edit[1..]);
+                    assert!(run.err.ends_with(words), "{}", run.err);
+                }
+            }
             false => assert_eq!(side.at("rewrite_alters_bytes").number(), 11),
         }
     }
@@ -494,17 +545,18 @@ fn a_limit_that_refuses_a_rewrite_is_told() {
     let (run, told) = compared(&one, &two);
     assert_eq!(run.status, 0, "{}", run.out);
     let none = "\ntables now: not the same, 1,048,612 bytes each\n\
-                tables as a rewrite writes them: none, a limit refuses both (9)\n";
+                tables as a rewrite would write them: none, a limit refuses both (9)\n";
     assert!(run.out.contains(none), "{}", run.out);
-    let words = ": a rewrite is refused 9: limit or memory (more entries, bytes of names or levels than a table may \
-                 have); the table stays as it is\n";
+    let words = ": a rewrite is refused 9: limit or memory (with no name shared the table would pass its limits); the \
+                 table stays as it is\n";
     assert_eq!(run.out.matches(words).count(), 2, "{}", run.out);
     assert!(told.at("same_tree").flag());
     assert_eq!(*told.at("same_rewritten"), Json::Null);
     let side = told.at("tables").at("after");
     assert_eq!(*side.at("rewrite_size"), Json::Null);
-    let note = refusal(&two, side, 9, "limit or memory").unwrap();
-    assert!(note.ends_with("with no name shared it would pass the limits of a table"), "{note}");
+    let note = "note: a rewrite, and every edit that writes the table, is refused 9 (limit or memory): with no name \
+                shared the table would pass its limits\n";
+    assert_eq!(refusal(&two, side, 9, "limit or memory", None), note);
     // One of them alone.
     let small = written(&temp, "small.iso");
     for (before, after) in [(&small, &one), (&one, &small)] {
@@ -512,12 +564,55 @@ fn a_limit_that_refuses_a_rewrite_is_told() {
         assert_eq!(run.status, 1, "{}", run.out);
         let name = one.display();
         let none = format!(
-            "\ntables as a rewrite writes them: none of {name}, which a limit refuses (9)\n"
+            "\ntables as a rewrite would write them: none of {name}, which a limit refuses (9)\n"
         );
         assert!(run.out.contains(&none), "{}", run.out);
         assert_eq!(*told.at("same_rewritten"), Json::Null);
         assert_eq!(told.at("difference").at("number").number(), 1);
     }
+}
+
+/// A rewrite is tried on a private copy. Where the machine gives no memory for one, the rest is told.
+#[test]
+fn a_rewrite_that_cannot_be_tried_is_told() {
+    let temp = Temp::new();
+    let long = |name: &str, image: &[u8]| {
+        let path = temp.write(name, image);
+        fs::OpenOptions::new().write(true).open(&path).unwrap().set_len(1 << 30).unwrap();
+        path
+    };
+    let one = long("one.iso", &master(0x440, &entries(ANEW, [0, 0]), NAMES));
+    let two = long("two.iso", &master(0x440, &entries(SHARED, [0, 0]), SHORT));
+    // So many KiB have room for each image once, and for half of one besides.
+    let limited = |kilobytes: u32, args: &[&str]| {
+        let script = "ulimit -v \"$1\"; shift; exec \"$@\"";
+        let mut command = Command::new("bash");
+        command.args(["-c", script, "bash", &kilobytes.to_string(), env!("CARGO_BIN_EXE_counter")]);
+        let run = Run::from(command.env("LC_ALL", "C.UTF-8").args(args).output().expect("bash"));
+        assert_eq!(run.status, 0, "{}{}", run.out, run.err);
+        run.out
+    };
+    let [a, b] = [&one, &two].map(|path| path.to_str().unwrap());
+    let why = |name: &str| format!("{name}: Cannot allocate memory (os error 12)");
+    let untried = |name: &str| format!("a rewrite could not be tried: {}\n", why(name));
+    const MIB: u32 = 1 << 10;
+    let text = limited(1536 * MIB, &["check", a]);
+    assert!(text.contains(": opens: 3 files, 1 folder, "), "{text}");
+    assert!(text.ends_with(&format!("\nnote: {}", untried(a))), "{text}");
+    let text = limited(1536 * MIB, &["check", b]);
+    assert!(text.ends_with(&format!("\n{}note: {}", note_1(0x440), untried(b))), "{text}");
+    let told = Json::read(&limited(1536 * MIB, &["check", b, "--json"]));
+    assert_eq!(told.at("rewrite_alters_at").number(), 0x44F);
+    assert_eq!(told.at("rewrite_size").number(), SIZE.into());
+    assert_eq!(told.at("rewrite_detail").text(), why(b));
+    for name in ["alters_bytes", "first_altered", "refused", "refusal", "cause"] {
+        assert_eq!(*told.at(&format!("rewrite_{name}")), Json::Null, "{name}");
+    }
+    let text = limited(2560 * MIB, &["compare", a, b, "--tables"]);
+    let sizes = "the same, 69 bytes";
+    let lines = [a, b].map(|name| format!("{name}: {}", untried(name))).concat();
+    let wanted = format!("\ntables as a rewrite would write them: {sizes}\n{lines}{LAST}");
+    assert!(text.ends_with(&wanted), "{text}");
 }
 
 // What cannot be compared -----------------------------------------------------------------
@@ -543,7 +638,7 @@ fn options_that_say_nothing_of_tables_are_wrong_usage() {
     for (before, after) in [(&sums, &two), (&two, &sums)] {
         let run = tables(before, after, &[]);
         assert_eq!((run.status, run.out.as_str()), (64, ""), "{}", run.err);
-        let words = "one.sums: a manifest; --tables compares those of two images";
+        let words = "one.sums: a manifest; --tables wants two images\n";
         assert!(run.err.contains(words), "{}", run.err);
     }
     // One file under two names.
