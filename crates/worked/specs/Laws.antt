@@ -2,6 +2,7 @@
 pub mod Applied
 pub mod FaultsTold
 pub mod Fills
+pub mod GrowthApart
 pub mod Handed
 pub mod ListAsOne
 pub mod ListImages

@@ -24,17 +24,17 @@ at offset size = record { offset = offset; size = size }
 
 -- two files, the first of so many bytes from there on
 abbrev pub entries : ℕ → ℕ → List Node
-entries offset size = directory [] 3 ∷ file (0x61 ∷ []) offset size ∷ file (0x62 ∷ []) 0x20010 0x10 ∷ []
+entries offset size = directory [] 3 ∷ file (0x61 ∷ []) offset size ∷ file (0x62 ∷ []) 0x10030 0x10 ∷ []
 
--- they lie at the end of the disc, and the table ends there
+-- they lie at the end of the disc, and the table, of 0x28 bytes, ends there
 abbrev pub disc_behind : ℕ → Disc
 disc_behind end = record {
-  nodes = entries 0x20000 0x10;
-  start = 0x440;
-  table_size = end - 0x440;
+  nodes = entries 0x10020 0x10;
+  start = end - 0x28;
+  table_size = 0x28;
   maximum = 0;
-  end = 0x20020;
-  used = at 0 end ∷ at 0x20000 0x10 ∷ at 0x20010 0x10 ∷ [];
+  end = 0x10040;
+  used = at 0 end ∷ at 0x10020 0x10 ∷ at 0x10030 0x10 ∷ [];
 }
 
 -- ---- what they have free
@@ -55,7 +55,7 @@ run-before p i (suc n) m h e =
     let s : i + suc (suc n) ≡ suc i + suc n = omega arith in
     rw (z, h i (omega arith) (omega arith), run-before p (suc i) n m (λ j u v. h j (omega arith) (omega arith)) (rw s at e), eq-eqb (suc i) (suc i) refl)
 
-module _ (end : ℕ) (less : end < 0x20000) where
+module _ (end : ℕ) (less : end < 0x10020) where
   abbrev is_free : ℕ → Bool
   is_free = is_free_in (disc_behind end).used
 
@@ -63,26 +63,26 @@ module _ (end : ℕ) (less : end < 0x20000) where
   unfolding is_used
   below-end j h = rw (is_inside-in (at 0 end) j (omega arith) (omega arith))
 
-  between : (j : ℕ) → end ≤ j → j < 0x20000 → is_free j ≡ true
+  between : (j : ℕ) → end ≤ j → j < 0x10020 → is_free j ≡ true
   unfolding is_used
-  between j h l = rw (is_inside-high (at 0 end) j (omega arith), is_inside-low (at 0x20000 0x10) j l, is_inside-low (at 0x20010 0x10) j (omega arith))
+  between j h l = rw (is_inside-high (at 0 end) j (omega arith), is_inside-low (at 0x10020 0x10) j l, is_inside-low (at 0x10030 0x10) j (omega arith))
 
-  in-files : (j : ℕ) → 0x20000 ≤ j → j < 0x20020 → is_free j ≡ false
+  in-files : (j : ℕ) → 0x10020 ≤ j → j < 0x10040 → is_free j ≡ false
   unfolding is_used
   in-files j h l =
       rw (is_inside-high (at 0 end) j (omega arith))
-      (⊎_elim (λ a. rw (is_inside-in (at 0x20000 0x10) j h a)) (λ a. rw (is_inside-high (at 0x20000 0x10) j a, is_inside-in (at 0x20010 0x10) j a l)) (lt-or-le j 0x20010))
+      (⊎_elim (λ a. rw (is_inside-in (at 0x10020 0x10) j h a)) (λ a. rw (is_inside-high (at 0x10020 0x10) j a, is_inside-in (at 0x10030 0x10) j a l)) (lt-or-le j 0x10030))
 
   -- LAW: all that lies between the table and the files
-  free-behind : free_of (disc_behind end) ≡ at end (0x20000 - end) ∷ []
+  free-behind : free_of (disc_behind end) ≡ at end (0x10020 - end) ∷ []
   unfolding free_regions
   free-behind =
-      let n : ℕ = 0x1FFFF - end in
-      let whole : end + (suc n + 0x20) ≡ 0x20020 = omega arith in
+      let n : ℕ = 0x1001F - end in
+      let whole : end + (suc n + 0x20) ≡ 0x10040 = omega arith in
       let low : 0 + end ≡ end = omega arith in
-      let gap : suc n ≡ 0x20000 - end = omega arith in
-      let files : end + suc n ≡ 0x20000 = omega arith in
-      let none : runs is_free (end + suc n) 0x20 ≡ [] = ap (λ (i : ℕ). runs is_free i 0x20) files ∙ runs_past is_free 0x20000 0x20 0 (λ j u v. in-files j u v) ∙ no-bytes is_free 0x20020 in
+      let gap : suc n ≡ 0x10020 - end = omega arith in
+      let files : end + suc n ≡ 0x10020 = omega arith in
+      let none : runs is_free (end + suc n) 0x20 ≡ [] = ap (λ (i : ℕ). runs is_free i 0x20) files ∙ runs_past is_free 0x10020 0x20 0 (λ j u v. in-files j u v) ∙ no-bytes is_free 0x10040 in
       ap (runs is_free 0) (sym whole)
       ∙ runs_past is_free 0 end (suc n + 0x20) (λ j u v. below-end j (omega arith))
       ∙ ap (λ (i : ℕ). runs is_free i (suc n + 0x20)) low
@@ -110,15 +110,15 @@ pub record GrowsApart (ed : Edit) : Type 0 where
 other-places : entries 0x8000 0x20 ≡ entries 0x10000 0x20 → ⊥
 other-places e = let z : ◌≡◌ {A = ℕ} 0x8000 0x10000 = ap (λ (xs : List Node). (region_of (get_or xs 1 empty_root)).offset) e in absurd (omega arith)
 
-near-free : free_of near ≡ at 0x7000 0x19000 ∷ []
+near-free : free_of near ≡ at 0x7000 0x9020 ∷ []
 near-free = free-behind 0x7000 (omega arith)
 
-far-free : free_of far ≡ at 0x9000 0x17000 ∷ []
+far-free : free_of far ≡ at 0x9000 0x7020 ∷ []
 far-free = free-behind 0x9000 (omega arith)
 
 -- the file goes to the first multiple of 0x8000 that is free
 abbrev grown : ℕ → Plan
-grown to = change 1 (relocation_change (entries 0x20000 0x10) 1 (at 0x20000 0x10) (at to 0x20))
+grown to = change 1 (relocation_change (entries 0x10020 0x10) 1 (at 0x10020 0x10) (at to 0x20))
 
 near-plan : plan_of (resize_file 1 0x20) near ≡ grown 0x8000
 unfolding plan_resize max_size_from size_beside_free allocation_of is_power_among largest_rest better_of align_up
@@ -136,7 +136,7 @@ far-passes : plan_verdict (grown 0x10000) far 20 40 ≡ Ok tt
 unfolding set_place max_size_from size_beside_free table_verdict place_verdict limits is_shallow is_shallow_from dirs_open_at encode entries_bytes parent_of parent_below texts_of
 far-passes = rw far-free refl
 
-tree-is : (to : ℕ) → plan_tree (grown to) (entries 0x20000 0x10) ≡ entries to 0x20
+tree-is : (to : ℕ) → plan_tree (grown to) (entries 0x10020 0x10) ≡ entries to 0x20
 unfolding set_place
 tree-is to = refl
 
