@@ -13,7 +13,7 @@ use Rattle.opened.specs.Opening.{table_of, nodes_in, opening, disc_of}
 use Rattle.edit_rules.specs.Edits.{Edit, Account, account, rewrite, plan_of, plan_tree, space_change, verdict_of, image_after, totals_after}
 use Rattle.ledger.specs.Runs.{Call, image_after_all, reports_of, totals_after_all, IsPassable, AllWithin}
 use Rattle.edit.specs.TableAnew.{table_anew, anew_verdict}
-use Rattle.same_table.specs.Trees.{IsSameTree, HasTableOf, HaveSameTable, WritesTable, IsFixedByTree}
+use Rattle.same_table.specs.Trees.{IsSameTree, HasTableOf, HaveSameTable, WritesNewTable, IsFixedByTree}
 use Rattle.same_table.specs.Unread.{DifferInUnread}
 
 -- ---- the tree fixes the table, and the table the tree
@@ -31,7 +31,7 @@ WholeTree =
 abbrev pub WrittenTable : Type 0
 WrittenTable =
     (ed : Edit) (a : Account) (image : List ℕ) (words bytes : ℕ) → IsPassable ed → AllBytes image →
-    verdict_of ed a image words bytes ≡ Ok tt → WritesTable (nodes_in image) ed →
+    verdict_of ed a image words bytes ≡ Ok tt → WritesNewTable (nodes_in image) ed →
     HasTableOf (image_after ed a image words bytes) (plan_tree (plan_of ed (disc_of image)) (nodes_in image))
 
 -- THEOREM: two images with the same tree get the same table from an edit whose tree that fixes, if both accept it:
@@ -93,7 +93,7 @@ pub record OpenAlike (image new : List ℕ) : Type 0 where
 pub record EditAlike (ed : Edit) (a : Account) (image new : List ℕ) (words bytes : ℕ) : Type 0 where
   pub verdict : verdict_of ed a new words bytes ≡ verdict_of ed a image words bytes
   pub totals : totals_after ed a new words bytes ≡ totals_after ed a image words bytes
-  pub written : verdict_of ed a image words bytes ≡ Ok tt → WritesTable (nodes_in image) ed →
+  pub written : verdict_of ed a image words bytes ≡ Ok tt → WritesNewTable (nodes_in image) ed →
       image_after ed a new words bytes ≡ image_after ed a image words bytes
   pub differ : DifferInUnread (image_after ed a image words bytes) (image_after ed a new words bytes)
 

@@ -32,14 +32,14 @@ abbrev pub file_size : List Node → ℕ → ℕ
 file_size nodes k = (region_of (slice_index_or nodes k empty_root)).size
 
 -- the edit writes a table where it is accepted: every edit but a resize or a fill to the size that the file has
-abbrev pub WritesTable : List Node → Edit → Type 0
-WritesTable nodes (insert_file p nm) = Unit {0}
-WritesTable nodes (insert_directory p nm) = Unit {0}
-WritesTable nodes (make_directories start path) = Unit {0}
-WritesTable nodes (move_file k to) = Unit {0}
-WritesTable nodes (resize_file k n) = n ≢ file_size nodes k
-WritesTable nodes (fill_file k clip) = length clip ≢ file_size nodes k
-WritesTable nodes rewrite = Unit {0}
+abbrev pub WritesNewTable : List Node → Edit → Type 0
+WritesNewTable nodes (insert_file p nm) = Unit {0}
+WritesNewTable nodes (insert_directory p nm) = Unit {0}
+WritesNewTable nodes (make_directories start path) = Unit {0}
+WritesNewTable nodes (move_file k to) = Unit {0}
+WritesNewTable nodes (resize_file k n) = n ≢ file_size nodes k
+WritesNewTable nodes (fill_file k clip) = length clip ≢ file_size nodes k
+WritesNewTable nodes rewrite = Unit {0}
 
 -- and the old tree and the edit fix the new one: of resizes and fills those to fewer bytes. A growth may look for a
 -- place, by the free space, and so by where the old table ends

@@ -624,7 +624,7 @@ An image too short for a header ends compare with 65, since 1 says that somethin
 refusal ends it with its own number.
 With --tables the trees and tables of two images are compared, and no file's bytes are read. It tells whether both \
 have the same tree (the entries' names, order, kinds and folders, the files' offsets and sizes) or where they first \
-have not; whether their tables are the same bytes now; whether the tables that a rewrite would write of them are, \
+differ; whether their tables are the same bytes now; whether the tables that a rewrite would write of them are, \
 which is so exactly where the trees are the same; and of each what a rewrite would alter: how many bytes become others, \
 of those from the table's start to the end of the longer table, old or new, and the table's size. A rewrite is tried on \
 a private copy, and where there is no memory for one, that is told; one that is refused is told with its cause, and \

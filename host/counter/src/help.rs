@@ -321,9 +321,9 @@ fn json(forms: &[Form]) -> String {
              \x20          others, of those from the table's start to the end of the longer table, old or new;\n\
              \x20          rewrite_first_altered: the first of them, or null; rewrite_size: of the table that it would\n\
              \x20          write, null where a limit refuses that (9). rewrite_refusal (9, 21, 26), rewrite_cause and\n\
-             \x20          rewrite_detail: of a refused one, else null. A refused one alters nothing, and\n\
-             \x20          rewrite_alters_bytes and rewrite_first_altered are null. They are, too, where there is no\n\
-             \x20          memory to try one; rewrite_detail says so then\n",
+             \x20          rewrite_detail: of a refused one, else null; where there is no memory to try one,\n\
+             \x20          rewrite_detail alone says so. In both cases nothing is altered, and rewrite_alters_bytes and\n\
+             \x20          rewrite_first_altered are null\n",
         );
     }
     if forms.iter().any(|form| ["info", "tree", "free"].contains(&form.name)) {

@@ -45,7 +45,7 @@ fn pool(r: &mut Random, codec: &Codec) -> Vec<Vec<u8>> {
     let mut pool: Vec<Vec<u8>> = match r.below(6) {
         0 => NAMES.iter().map(|name| name.to_vec()).collect(),
         1 => (0..r.within(1, 3)).map(|_| r.pick(&NAMES).to_vec()).collect(),
-        2 | 3 => ends(*r.pick(&names::ENDS)),
+        2 | 3 => ends(r.pick::<&[u8]>(&names::ENDS)),
         4 => (0..r.within(2, 6)).map(|_| names::name(r, false)).collect(),
         _ => {
             let long: Vec<u8> = (0..r.within(20, 120)).map(|_| *r.pick(b"abc")).collect();
@@ -86,7 +86,8 @@ impl Growth {
     }
 }
 
-/// A tree whose files have no places yet.
+/// A tree whose files have no places yet; `wide`: the tables are to end around 0x8000, the first place that a growth
+/// looks at.
 fn tree(r: &mut Random, codec: &Codec, wide: bool) -> Item {
     let left = match r.below(if wide { 85 } else { 100 }) {
         0..=2 if !wide => 0,
@@ -522,7 +523,7 @@ impl Run {
         self.fault(what, &lines, &asked.call.line(), "", told[0], told[1]);
     }
 
-    /// The images of these classes are one tree to both sides, whatever stands in the bytes that no call
+    /// The images of these classes are one tree to both sides, whatever stands in the bytes that no edit
     /// reads.
     fn look_alike(&mut self, classes: &[Class], cases: &mut [Case]) {
         let (mut lines, mut all) = (Batch::default(), vec![]);
@@ -644,12 +645,17 @@ impl Run {
         ];
         for (side, (behind, more, hash, due)) in sides.into_iter().enumerate() {
             let Some(behind) = behind else { continue };
-            let what = match (more[behind.again] == due, more[behind.hash] == *hash) {
-                (false, _) => ["a second rewrite", "a second rewrite of the original"][side],
-                (_, false) => ["a second rewrite alters", "the original's second alters"][side],
+            let [again, left] = [&more[behind.again][..], &more[behind.hash][..]];
+            let (what, told) = match (again == due, left == *hash) {
+                (false, _) => {
+                    (["a second rewrite", "a second rewrite of the original"][side], [again, due])
+                }
+                (_, false) => (
+                    ["a second rewrite alters", "the original's second alters"][side],
+                    [left, hash],
+                ),
                 _ => continue,
             };
-            let told = [&more[behind.again][..], due];
             self.differ(&format!("pairs: {what}"), &[case], &one.asked, told);
         }
         if let Some((due, at)) = &one.record
@@ -898,7 +904,7 @@ fn worked() -> (Item, Vec<Vec<u8>>) {
     (tree, images)
 }
 
-/// Two files one behind the other, past 0x20000, and tables that end at 0x7000 and at 0x9000: the first file can
+/// Two files one behind the other, from 0x20000 on, and tables that end at 0x7000 and at 0x9000: the first file can
 /// only grow elsewhere, and goes to two places.
 fn apart() -> (Item, Vec<Vec<u8>>) {
     let files = [(&b"a"[..], 0x2_0000), (b"b", 0x2_0010)];
@@ -950,7 +956,7 @@ fn small(run: &mut Run) {
                 return;
             }
             let known = call.text().is_none_or(|text| run.codec.class(text).is_none());
-            if known && (run.inserts || !matches!(call.text(), Some(_))) {
+            if known && (run.inserts || call.text().is_none()) {
                 run.edit_alike(&classes, &mut cases, &[call]);
             }
         }

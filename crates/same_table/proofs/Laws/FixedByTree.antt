@@ -14,7 +14,7 @@ use Rattle.edit_rules.specs.Change.{Plan, change, filled}
 use Rattle.edit_rules.specs.Edits.{Edit, Account, insert_file, insert_directory, make_directories, move_file, resize_file, fill_file, rewrite, table_change, plan_behind, new_number, insert_verdict, Made, stopped, made, make, plan_made, plan_make_directories, file_verdict, relocation_change, relocate_verdict, plan_move, resize_change, plan_sized, plan_resize, clip_verdict, plan_fill, plan_of, plan_verdict, plan_tree, verdict_of, image_after}
 use Rattle.edit_rules.proofs.Laws.Accepted.{accepted}
 use Rattle.ledger.specs.Runs.{IsPassable}
-use Rattle.same_table.specs.Trees.{HasTableOf, HaveSameTable, file_size, WritesTable, IsFixedByTree}
+use Rattle.same_table.specs.Trees.{HasTableOf, HaveSameTable, file_size, WritesNewTable, IsFixedByTree}
 use Rattle.same_table.specs.Theorem.{SameTable}
 use Rattle.same_table.proofs.Laws.Tabled.{is_tabled}
 use Rattle.same_table.proofs.Laws.WholeTree.{whole-tree}
@@ -73,7 +73,7 @@ module _ (d : Disc) (words bytes : ℕ) where
       (q.0 ∙ ap (filled k clip) (resized k (length clip) h q.1), refl)
   plan-fixed rewrite h e = (refl, refl)
 
-fixed-writes : (nodes : List Node) (ed : Edit) → IsFixedByTree nodes ed → WritesTable nodes ed
+fixed-writes : (nodes : List Node) (ed : Edit) → IsFixedByTree nodes ed → WritesNewTable nodes ed
 fixed-writes nodes (insert_file p nm) h = tt
 fixed-writes nodes (insert_directory p nm) h = tt
 fixed-writes nodes (make_directories start path) h = tt

@@ -98,9 +98,8 @@ near = disc_behind 0x7000
 abbrev pub far : Disc
 far = disc_behind 0x9000
 
--- the entries are the same, its tests pass on both, with as much memory, and its trees differ
+-- of an edit of both, whose entries are the same: its tests pass, with as much memory, and its trees differ
 pub record GrowsApart (ed : Edit) : Type 0 where
-  pub same-nodes : near.nodes ≡ far.nodes
   pub near-passes : plan_verdict (plan_of ed near) near 20 40 ≡ Ok tt
   pub far-passes : plan_verdict (plan_of ed far) far 20 40 ≡ Ok tt
   pub near-tree : plan_tree (plan_of ed near) near.nodes ≡ entries 0x8000 0x20
@@ -143,7 +142,6 @@ tree-is to = refl
 -- LAW: a resize
 pub resized-apart : GrowsApart (resize_file 1 0x20)
 resized-apart = record {
-  same-nodes = refl;
   near-passes = rw near-plan near-passes;
   far-passes = rw far-plan far-passes;
   near-tree = rw near-plan (tree-is 0x8000);
@@ -155,7 +153,6 @@ resized-apart = record {
 pub filled-apart : (clip : List ℕ) → length clip ≡ 0x20 → GrowsApart (fill_file 1 clip)
 unfolding plan_fill
 filled-apart clip long = record {
-  same-nodes = refl;
   near-passes = rw long resized-apart.near-passes;
   far-passes = rw long resized-apart.far-passes;
   near-tree = rw long resized-apart.near-tree;

@@ -12,7 +12,7 @@ use Rattle.space.specs.Allocate.{allocation_of}
 use Rattle.opened.specs.Opening.{region_of, Disc, free_of}
 use Rattle.edit_rules.specs.Change.{Plan, refused, nothing, change, filled}
 use Rattle.edit_rules.specs.Edits.{Edit, insert_file, insert_directory, make_directories, move_file, resize_file, fill_file, rewrite, plan_behind, insert_verdict, Made, stopped, made, make, plan_made, plan_make_directories, file_verdict, relocate_verdict, plan_move, resize_change, plan_elsewhere, plan_sized, plan_resize, clip_verdict, plan_fill, plan_of, plan_verdict}
-use Rattle.same_table.specs.Trees.{WritesTable}
+use Rattle.same_table.specs.Trees.{WritesNewTable}
 
 -- the plan comes to a table that is written
 abbrev pub is_tabled : Plan → Bool
@@ -45,7 +45,7 @@ module _ (d : Disc) (words bytes : ℕ) where
   of-cond true p q f g = f
   of-cond false p q f g = g
 
-  resized : (k n : ℕ) → WritesTable d.nodes (resize_file k n) → Tables (plan_resize (free_of d) d.nodes k n)
+  resized : (k n : ℕ) → WritesNewTable d.nodes (resize_file k n) → Tables (plan_resize (free_of d) d.nodes k n)
   unfolding plan_resize
   resized k n h =
       let old : DiscRegion = region_of (get_or d.nodes k empty_root) in
@@ -55,7 +55,7 @@ module _ (d : Disc) (words bytes : ℕ) where
       (λ u. refl) (of-elsewhere k n old (allocation_of 0x8000 n (free_of d)))))
 
   -- LAW
-  pub plan-tabled : (ed : Edit) → WritesTable d.nodes ed → Tables (plan_of ed d)
+  pub plan-tabled : (ed : Edit) → WritesNewTable d.nodes ed → Tables (plan_of ed d)
   unfolding plan_make_directories plan_move plan_fill
   plan-tabled (insert_file p nm) h = behind (insert_verdict d.nodes p nm) _ (λ u. refl)
   plan-tabled (insert_directory p nm) h = behind (insert_verdict d.nodes p nm) _ (λ u. refl)

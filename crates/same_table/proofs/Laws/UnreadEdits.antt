@@ -23,7 +23,7 @@ use Rattle.ledger.proofs.Laws.Kept.{Kept, opened-kept}
 use Rattle.ledger.proofs.Laws.Sequence.{start}
 use Rattle.ledger.proofs.Laws.Steps.{step-accepted, step}
 use Rattle.steps.proofs.Laws.FreePlace.{span_same}
-use Rattle.same_table.specs.Trees.{WritesTable}
+use Rattle.same_table.specs.Trees.{WritesNewTable}
 use Rattle.same_table.specs.Unread.{DifferInUnread}
 use Rattle.same_table.specs.Theorem.{EditAlike, NoInfluence, ListAlike, NoInfluenceAlong}
 use Rattle.same_table.proofs.Laws.Tabled.{is_tabled, plan-tabled}
@@ -188,7 +188,7 @@ module _ (image : List ℕ) (w : ℕ) (b : AllBytes image) (e : opening image w 
         go (Err c) q = refl
 
     -- LAW: the image, where a table is written
-    written-same : verdict_of ed a image words bytes ≡ Ok tt → WritesTable (nodes_in image) ed → image_after ed a new words bytes ≡ image_after ed a image words bytes
+    written-same : verdict_of ed a image words bytes ≡ Ok tt → WritesNewTable (nodes_in image) ed → image_after ed a new words bytes ≡ image_after ed a image words bytes
     unfolding image_after
     written-same q t =
         let r = accepted ed a image words bytes q in

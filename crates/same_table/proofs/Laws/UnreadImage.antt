@@ -5,21 +5,22 @@ use Rattle.std.specs.Prelude.{ℕ, ◌+◌, ◌-◌, ◌*◌, ◌<◌, ◌≤◌
 use Rattle.std.proofs.Common.{sym, ap, ◌∙◌, ⊎_elim, inl, inr, arith, leb-true}
 use Rattle.std.proofs.Math.ListN.{get_or-eq_default}
 use Rattle.endian.specs.Bytes.{put, be32, AllBytes}
-use Rattle.endian.specs.Laws.Stored.{Outside, be32-same, put-before, put-after, put_in, put-none, length-span, get_d-span, span_ext}
+use Rattle.endian.specs.Laws.Stored.{Outside, be32-same, put-before, put-after, put_in, put-none, length-span, get_d-span}
 use Rattle.refusal.specs.Laws.Tests.{lt-or-le, and_left, and_right, and-false, is_false}
-use Rattle.header.specs.Verdicts.{fst_offset, fst_size, fst_max_size, user_size, disc_size, disc_end, table_end}
+use Rattle.header.specs.Verdicts.{fst_offset, fst_size, fst_max_size, user_size, disc_size, disc_end}
 use Rattle.header.specs.Laws.FieldTests.{GoodHeader, Bounded, bounds-same, header-passes}
 use Rattle.tree.specs.Table.{count}
 use Rattle.tree.proofs.Laws.Accepted.{accepted}
 use Rattle.executable.specs.Program.{program_in}
 use Rattle.opened.specs.Opening.{table_of, nodes_in, regions_behind_table, used_in, layout_verdict, free_space_of, used_of, opening, disc_of}
 use Rattle.opened.proofs.Laws.OpeningLaws.{table-accepted, span-bytes}
-use Rattle.edit_rules.proofs.Laws.Puts.{Fits, put-length, put-below, field_below}
+use Rattle.edit_rules.proofs.Laws.Puts.{Fits, put-length}
 use Rattle.ledger.proofs.Laws.Opened.{Opened, opened}
 use Rattle.ledger.proofs.Laws.ProgramKept.{ProgramKept, program-spared}
 use Rattle.same_table.specs.Unread.{is_unread, is_unread_in, DifferInUnread}
 use Rattle.same_table.specs.Theorem.{OpenAlike}
 use Rattle.same_table.proofs.Laws.SafeChange.{FitsBehind}
+use Rattle.same_table.proofs.Laws.WrittenTable.{start-behind, size-behind, table-behind}
 use Rattle.same_table.proofs.Laws.UnreadTable.{IsUnread, unread-is, SameEntries, some, entries-of, entries-same, check-same}
 
 -- the images have tables with the same entries, and all else in common
@@ -194,20 +195,6 @@ put-alike s s' at (b ∷ bs) h l i e =
         ∙ sym (put_in s at (b ∷ bs) f (i - at) (omega arith)) ∙ ap (λ (n : ℕ). get_or (put s at (b ∷ bs)) n 0) q
 
 -- behind the table, which stays
-module _ (image : List ℕ) (at : ℕ) (bs : List ℕ) (p : FitsBehind image at bs) where
-  behind_start : fst_offset (put image at bs) ≡ fst_offset image
-  behind_start = field_below image at bs (table_end image) p.fits p.behind 0x424 (omega (arith, p.bounds.after-header))
-
-  behind_size : fst_size (put image at bs) ≡ fst_size image
-  behind_size = field_below image at bs (table_end image) p.fits p.behind 0x428 (omega (arith, p.bounds.after-header))
-
-  behind_table : table_of (put image at bs) ≡ table_of image
-  unfolding table_of
-  behind_table =
-      let h : fst_offset image + fst_size image ≤ length image = omega (arith, p.bounds.table, p.bounds.image_holds) in
-      rw (behind_start, behind_size)
-      (span_ext (put image at bs) image (fst_offset image) (fst_size image) (rw (put-length image at bs p.fits) h) h (λ i l. put-below image at bs (table_end image) p.fits p.behind (fst_offset image + i) (omega arith)))
-
 module _ (image new : List ℕ) (s : SameButUnread image new) (at : ℕ) (bs : List ℕ) (p : FitsBehind image at bs) where
   fits-new : FitsBehind new at bs
   fits-new = record {
@@ -225,8 +212,8 @@ module _ (image new : List ℕ) (s : SameButUnread image new) (at : ℕ) (bs : L
   pub put-unread : SameButUnread (put image at bs) (put new at bs)
   put-unread = record {
     len = put-length new at bs fits-new.fits ∙ s.len ∙ sym (put-length image at bs p.fits);
-    same = λ i h. put-alike image new at bs p.fits s.len i (s.same i (rw (behind_start image at bs p, behind_size image at bs p) at h));
-    table = rw (behind_table image at bs p, behind_table new at bs fits-new) s.table;
+    same = λ i h. put-alike image new at bs p.fits s.len i (s.same i (rw (start-behind image at bs p, size-behind image at bs p) at h));
+    table = rw (table-behind image at bs p, table-behind new at bs fits-new) s.table;
   }
 
 module _ (image new : List ℕ) (d : DifferInUnread image new) (at : ℕ) (bs : List ℕ) (p : FitsBehind image at bs) where
@@ -234,5 +221,5 @@ module _ (image new : List ℕ) (d : DifferInUnread image new) (at : ℕ) (bs : 
   pub put-differ : DifferInUnread (put image at bs) (put new at bs)
   put-differ = record {
     len = put-length new at bs (rw d.len p.fits) ∙ d.len ∙ sym (put-length image at bs p.fits);
-    same = λ i h. put-alike image new at bs p.fits d.len i (d.same i (rw (behind_start image at bs p, behind_table image at bs p) at h));
+    same = λ i h. put-alike image new at bs p.fits d.len i (d.same i (rw (start-behind image at bs p, table-behind image at bs p) at h));
   }

@@ -24,8 +24,8 @@ module _ (image : List ℕ) (at : ℕ) (bs : List ℕ) (f : FitsBehind image at 
   field-same : (i : ℕ) → i + 4 ≤ 0x440 → be32 (put image at bs) i ≡ be32 image i
   field-same i h = field_below image at bs (table_end image) f.fits f.behind i (omega (arith, f.bounds.after-header))
 
-  start-same : fst_offset (put image at bs) ≡ fst_offset image
-  start-same = field-same 0x424 (omega arith)
+  pub start-behind : fst_offset (put image at bs) ≡ fst_offset image
+  start-behind = field-same 0x424 (omega arith)
 
   pub size-behind : fst_size (put image at bs) ≡ fst_size image
   size-behind = field-same 0x428 (omega arith)
@@ -34,7 +34,7 @@ module _ (image : List ℕ) (at : ℕ) (bs : List ℕ) (f : FitsBehind image at 
   unfolding table_of
   table-behind =
       let e : fst_offset image + fst_size image ≤ length image = omega (arith, f.bounds.table, f.bounds.image_holds) in
-      rw (start-same, size-behind) (span_ext (put image at bs) image (fst_offset image) (fst_size image) (rw len e) e (λ i h. put-below image at bs (table_end image) f.fits f.behind (fst_offset image + i) (omega arith)))
+      rw (start-behind, size-behind) (span_ext (put image at bs) image (fst_offset image) (fst_size image) (rw len e) e (λ i h. put-below image at bs (table_end image) f.fits f.behind (fst_offset image + i) (omega arith)))
 
 -- LAW: of a plan that is safe
 pub tabled-plan : (image : List ℕ) (p : Plan) → IsSafePlan image p → is_tabled p ≡ true → HasTableOf (plan_image p image) (plan_tree p (nodes_in image))

@@ -29,7 +29,7 @@ use Rattle.ledger.proofs.Laws.Steps.{step}
 use Rattle.ledger.proofs.Laws.TreeAfter.{tree-after}
 use Rattle.ledger.proofs.Laws.Unbounded.{IsUnbounded, own-record}
 use Rattle.edit.specs.TableAnew.{table_anew, anew_verdict}
-use Rattle.same_table.specs.Trees.{entry_alone, IsSameTree, HasTableOf, HaveSameTable, WritesTable, IsFixedByTree}
+use Rattle.same_table.specs.Trees.{entry_alone, IsSameTree, HasTableOf, HaveSameTable, WritesNewTable, IsFixedByTree}
 use Rattle.same_table.specs.Unread.{DifferInUnread}
 use Rattle.same_table.specs.Theorem.{IsWrittenAnew}
 use Rattle.same_table.proofs.Laws.FixedByTree.{same-table}
@@ -257,7 +257,7 @@ whole =
 
 -- an accepted edit that writes a table
 module _ {o n : ℕ} {image : List ℕ} (r : Reads o n image) (around : Around o n) (ed : Edit) (p : IsPassable ed) (a : Account) (words bytes : ℕ)
-    (v : verdict_of ed a image words bytes ≡ Ok tt) (t : WritesTable tree ed) where
+    (v : verdict_of ed a image words bytes ≡ Ok tt) (t : WritesNewTable tree ed) where
   abbrev new : List ℕ
   new = image_after ed a image words bytes
 
