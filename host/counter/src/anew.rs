@@ -1,5 +1,5 @@
-//! What a rewrite would make of an image: the table that it writes, and what it alters. It is tried on a private
-//! copy.
+//! What a rewrite would make of an image: the table that it writes, and what it alters. It is tried on a
+//! private copy.
 
 use crate::account::Turn;
 use crate::call::{Call, Wish, refused};
@@ -31,11 +31,13 @@ enum Rewrite {
     Untried(String),
 }
 
-/// What a rewrite alters of an image, whose only other bytes that it writes are the table's size in the header.
+/// What a rewrite alters of an image, whose only other bytes that it writes are the table's size in the
+/// header.
 struct Altered {
-    /// How many bytes are others afterwards, from the table's start to the end of the longer table, old or new. They are
-    /// the image's: behind a shorter old table those that lie there, behind a shorter new one zeros. So where zeros
-    /// stand behind the names, the first lies behind the place where the table departs, or there is none.
+    /// How many bytes are others afterwards, from the table's start to the end of the longer table, old
+    /// or new. They are the image's: behind a shorter old table those that lie there, behind a shorter
+    /// new one zeros. So where zeros stand behind the names, the first lies behind the place where the
+    /// table departs, or there is none.
     bytes: usize,
     /// Where the first of them is, and what lies there.
     first: Option<(u64, String)>,

@@ -23,8 +23,9 @@ pub fn first_difference(a: &[u8], b: &[u8]) -> Option<usize> {
     at.or((a.len() != b.len()).then_some(common))
 }
 
-/// Where in the image the table begins to be another than a rewrite of its tree writes. It is held against that
-/// table, its size too, and not against the bytes that follow it: one that ends before the other departs there.
+/// Where in the image the table begins to be another than a rewrite of its tree writes. It is held
+/// against that table, its size too, and not against the bytes that follow it: one that ends before the
+/// other departs there.
 #[derive(Clone, Copy, PartialEq, Eq)]
 pub enum Departure {
     /// It is exactly that.

@@ -1,5 +1,5 @@
-//! `compare --tables`: whether two images have the same tree, and with it whether a rewrite writes the same table of
-//! both. No file's bytes are read.
+//! `compare --tables`: whether two images have the same tree, and with it whether a rewrite writes the
+//! same table of both. No file's bytes are read.
 
 use crate::anew::Anew;
 use crate::args::Args;
@@ -159,8 +159,8 @@ fn difference(a: &Side, b: &Side) -> Option<Difference> {
     found.find(|found| !found.parts.is_empty()).or((one != other).then_some(end))
 }
 
-/// In what two entries differ that have the same number, and the same entries before them. Where a folder ends goes
-/// by the folders of those behind it.
+/// In what two entries differ that have the same number, and the same entries before them. Where a
+/// folder ends goes by the folders of those behind it.
 fn unlike((a, x): (&Image, &Node), (b, y): (&Image, &Node)) -> Vec<&'static str> {
     let (offset, size) = match (x.kind, y.kind) {
         (Kind::File { offset, size }, Kind::File { offset: other, size: long }) => {

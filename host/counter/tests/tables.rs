@@ -1,5 +1,6 @@
-//! `compare --tables` and what `check` tells of a rewrite. What is wanted is worked out by hand: a table written anew has
-//! 12 bytes for the root, and 13 and its name for each further entry. None of it is libcounter's.
+//! `compare --tables` and what `check` tells of a rewrite. What is wanted is worked out by hand: a table
+//! written anew has 12 bytes for the root, and 13 and its name for each further entry. None of it is
+//! libcounter's.
 
 mod support;
 
@@ -25,8 +26,8 @@ fn master(fst: usize, entries: &[Entry], texts: &[u8]) -> Vec<u8> {
     image
 }
 
-/// The files `a`, `b/a` and `ba`: the table with its names offset so, and these parents of the root and of `b/`. Written
-/// anew it has 12 + 14 + 14 + 14 + 15 = 69 bytes, and so ends at 0x485.
+/// The files `a`, `b/a` and `ba`: the table with its names offset so, and these parents of the root and
+/// of `b/`. Written anew it has 12 + 14 + 14 + 14 + 15 = 69 bytes, and so ends at 0x485.
 fn entries(names: [u32; 4], parents: [u32; 2]) -> [Entry; 5] {
     let [a, b, b_a, ba] = names;
     [
@@ -96,8 +97,8 @@ struct Form {
 }
 
 impl Form {
-    /// Where the table begins to be another than the one of 69 bytes: where zeros stand behind the names, at their end,
-    /// although a rewrite leaves them as they are.
+    /// Where the table begins to be another than the one of 69 bytes: where zeros stand behind the
+    /// names, at their end, although a rewrite leaves them as they are.
     fn departs(&self) -> Option<u64> {
         if self.size > SIZE { Some(0x485) } else { self.first }
     }
@@ -113,7 +114,8 @@ fn forms() -> Vec<Form> {
     const ROOT: &str = "0x443, the name offset of entry 0";
     form(master(0x440, &entries(ANEW, [0, 0]), NAMES), 69, 0, None, "nothing");
     form(master(0x470, &entries(ANEW, [0, 0]), NAMES), 69, 0, None, "nothing");
-    // Four name offsets. `ba\0b\0` and four zeros become `a\0b\0a\0ba\0`: seven bytes, all but the sixth and the last.
+    // Four name offsets. `ba\0b\0` and four zeros become `a\0b\0a\0ba\0`: seven bytes, all but the sixth
+    // and the last.
     let shared = master(0x440, &entries(SHARED, [0, 0]), SHORT);
     form(shared.clone(), 65, 11, Some(0x44F), NAME_1);
     // Behind its end stands `xba\0` as free space: x becomes 0, and the rest is what is written.
@@ -124,7 +126,8 @@ fn forms() -> Vec<Form> {
     let mut false_parents = entries(SHARED, [7, u32::MAX]);
     false_parents[0][0] |= 5;
     form(master(0x440, &false_parents, SHORT), 65, 17, Some(0x443), ROOT);
-    // `b/a` has the text of `a`: the offsets of `b/a` and `ba`, and `ba\0` with two zeros become `a\0ba\0`: four.
+    // `b/a` has the text of `a`: the offsets of `b/a` and `ba`, and `ba\0` with two zeros become
+    // `a\0ba\0`: four.
     let one = master(0x440, &entries([0, 2, 0, 4], [0, 0]), b"a\0b\0ba\0");
     form(one, 67, 6, Some(0x467), "0x467, the name offset of entry 3");
     // Six bytes behind the names: zeros stay, and others become zeros.
@@ -412,8 +415,8 @@ fn nothing_but_trees_and_tables_is_compared() {
 
 // A rewrite that is refused ---------------------------------------------------------------
 
-/// One of the sides, and the notes of `check` about a rewrite. They are of one mind: number, cause and detail. And where
-/// the table departs, or the limit, is told as of a rewrite that is not refused.
+/// One of the sides, and the notes of `check` about a rewrite. They are of one mind: number, cause and
+/// detail. And where the table departs, or the limit, is told as of a rewrite that is not refused.
 fn refusal(image: &Path, told: &Json, number: u64, cause: &str, departs: Option<u64>) -> String {
     refused(image, &["rewrite"], number as i32);
     let limit = (number == 9).then_some(number);

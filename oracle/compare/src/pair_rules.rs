@@ -1,5 +1,5 @@
-//! A tree as its directories hold it. Images are made from it, and none is read for it: what an edit makes of it,
-//! by docs/RULES.md alone, and its entries in the table's order.
+//! A tree as its directories hold it. Images are made from it, and none is read for it: what an edit
+//! makes of it, by docs/RULES.md alone, and its entries in the table's order.
 
 use crate::calls::Call;
 use crate::rules::{self, Entry};

@@ -86,8 +86,8 @@ impl Growth {
     }
 }
 
-/// A tree whose files have no places yet; `wide`: the tables are to end around 0x8000, the first place that a growth
-/// looks at.
+/// A tree whose files have no places yet; `wide`: the tables are to end around 0x8000, the first place
+/// that a growth looks at.
 fn tree(r: &mut Random, codec: &Codec, wide: bool) -> Item {
     let left = match r.below(if wide { 85 } else { 100 }) {
         0..=2 if !wide => 0,
@@ -904,8 +904,8 @@ fn worked() -> (Item, Vec<Vec<u8>>) {
     (tree, images)
 }
 
-/// Two files one behind the other, from 0x20000 on, and tables that end at 0x7000 and at 0x9000: the first file can
-/// only grow elsewhere, and goes to two places.
+/// Two files one behind the other, from 0x20000 on, and tables that end at 0x7000 and at 0x9000: the
+/// first file can only grow elsewhere, and goes to two places.
 fn apart() -> (Item, Vec<Vec<u8>>) {
     let files = [(&b"a"[..], 0x2_0000), (b"b", 0x2_0010)];
     let files = files.map(|(name, at)| Item::file(name, at, 0x10));

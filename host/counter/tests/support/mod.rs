@@ -56,8 +56,8 @@ impl Drop for Temp {
     }
 }
 
-/// Says what this machine has not, past the test runner, which keeps what a test that passes prints. Only for what
-/// docs/GUIDE.md names: what else is not there fails its test.
+/// Says what this machine has not, past the test runner, which keeps what a test that passes prints.
+/// Only for what docs/GUIDE.md names: what else is not there fails its test.
 pub fn not_tried(what: &str) {
     let _ = writeln!(std::io::stderr(), "not tried: {what}");
 }
