@@ -11,7 +11,8 @@ use Rattle.totals.specs.declared.Totals.{Totals}
 use Rattle.totals.specs.Totals.{team_of, team_verdict, totals_verdict}
 use Rattle.opened.specs.Opening.{table_of, nodes_in, opening, disc_of}
 use Rattle.edit_rules.specs.Edits.{Edit, Account, account, rewrite, plan_of, plan_tree, space_change, verdict_of, image_after, totals_after}
-use Rattle.ledger.specs.Runs.{Call, image_after_all, reports_of, totals_after_all, IsPassable, AllWithin}
+use Rattle.ledger.specs.Runs.{Call, image_after_all, totals_after_all, IsPassable, AllWithin}
+use Rattle.ledger.specs.Lists.{answers_of}
 use Rattle.edit.specs.TableAnew.{table_anew, anew_verdict}
 use Rattle.same_table.specs.Trees.{IsSameTree, HasTableOf, HaveSameTable, WritesNewTable, IsFixedByTree}
 use Rattle.same_table.specs.Unread.{DifferInUnread}
@@ -114,9 +115,9 @@ pub record HasNoInfluence (image : List ℕ) : Type 0 where
 abbrev pub NoInfluence : Type 0
 NoInfluence = (image : List ℕ) (w : ℕ) → AllBytes image → opening image w ≡ Ok tt → HasNoInfluence image
 
--- what the ledger is told of each call, the record handed on, and the images at last
-pub record ListAlike (calls : List Call) (image new : List ℕ) : Type 0 where
-  pub reports : reports_of calls new ≡ reports_of calls image
+-- what each call gives back, a number or a refusal, the record handed on, and the images at last
+pub record RunAlike (calls : List Call) (image new : List ℕ) : Type 0 where
+  pub answers : answers_of calls new ≡ answers_of calls image
   pub handed-on : (t : Totals) → totals_after_all t calls new ≡ totals_after_all t calls image
   pub at-last : DifferInUnread (image_after_all calls image) (image_after_all calls new)
 
@@ -124,4 +125,4 @@ pub record ListAlike (calls : List Call) (image new : List ℕ) : Type 0 where
 abbrev pub NoInfluenceAlong : Type 0
 NoInfluenceAlong =
     (image new : List ℕ) (w₀ w : ℕ) (calls : List Call) → AllBytes image → opening image w₀ ≡ Ok tt →
-    AllWithin w calls → DifferInUnread image new → ListAlike calls image new
+    AllWithin w calls → DifferInUnread image new → RunAlike calls image new

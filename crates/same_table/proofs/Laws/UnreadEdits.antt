@@ -1,11 +1,12 @@
 -- What stands in a table's unread bytes has no influence on an edit: the verdict and the record are the same, and where a table is written so is
 -- the whole image. Assumes nothing.
-use Rattle.std.specs.Prelude.{Ok, Err, is_err}
+use Rattle.std.specs.Prelude.{Result, Ok, Err, is_err}
 use Rattle.std.specs.Prelude.{ℕ, ◌+◌, ◌-◌, ◌<◌, ◌≤◌, ◌≡◌, refl, Bool, true, false, cond, List, [], ◌∷◌, length, get_or, slice_index, replicate}
 use Rattle.std.proofs.Common.{sym, ap, ◌∙◌, ⊎_elim, inl, inr, arith, true≢false, ext_get_or, length-append}
 use Rattle.std.proofs.lemmas.List.{length-replicate}
 use Rattle.endian.specs.Bytes.{put, span, AllBytes}
 use Rattle.endian.specs.Laws.Stored.{Outside, length-put, put-before, put-after, put_in}
+use Rattle.refusal.specs.declared.Refusal.{Refusal}
 use Rattle.refusal.specs.Refusal.{Verdict, first}
 use Rattle.refusal.specs.Laws.Tests.{lt-or-le}
 use Rattle.header.specs.Verdicts.{fst_offset, fst_size}
@@ -13,11 +14,12 @@ use Rattle.tree.specs.Table.{encode}
 use Rattle.totals.specs.Totals.{team_verdict, totals_verdict, moved_totals}
 use Rattle.opened.specs.Opening.{nodes_in, free_space_of, used_of, opening, Disc, disc_of}
 use Rattle.edit_rules.specs.Change.{Change, padded_table, image_with_table, copied_image, written_image, Plan, refused, nothing, change, filled}
-use Rattle.edit_rules.specs.Edits.{Edit, Account, plan_of, plan_verdict, plan_image, space_change, counted_verdict, verdict_of, image_after, totals_after}
+use Rattle.edit_rules.specs.Edits.{Edit, Account, plan_of, plan_verdict, plan_image, plan_number, number_behind, space_change, counted_verdict, verdict_of, image_after, totals_after}
 use Rattle.edit_rules.proofs.Laws.Accepted.{accepted}
 use Rattle.edit_rules.proofs.Laws.Puts.{Fits, put-length, span-length}
 use Rattle.ledger.specs.Ledger.{Ledger, first_ledger, ledger_with}
-use Rattle.ledger.specs.Runs.{Call, image_after_all, reports_of, totals_after_all, IsPassable, AllWithin}
+use Rattle.ledger.specs.Runs.{Call, image_after_all, totals_after_all, IsPassable, AllWithin}
+use Rattle.ledger.specs.Lists.{answers_of}
 use Rattle.ledger.proofs.Laws.Opened.{Opened, opened}
 use Rattle.ledger.proofs.Laws.Kept.{Kept, opened-kept}
 use Rattle.ledger.proofs.Laws.Sequence.{start}
@@ -25,7 +27,7 @@ use Rattle.ledger.proofs.Laws.Steps.{step-accepted, step}
 use Rattle.steps.proofs.Laws.FreePlace.{span_same}
 use Rattle.same_table.specs.Trees.{WritesNewTable}
 use Rattle.same_table.specs.Unread.{DifferInUnread}
-use Rattle.same_table.specs.Theorem.{EditAlike, NoInfluence, ListAlike, NoInfluenceAlong}
+use Rattle.same_table.specs.Theorem.{EditAlike, NoInfluence, RunAlike, NoInfluenceAlong}
 use Rattle.same_table.proofs.Laws.Tabled.{is_tabled, plan-tabled}
 use Rattle.same_table.proofs.Laws.SafeChange.{SafeChange, clip_offset, IsSafePlan, safe-plan}
 use Rattle.same_table.proofs.Laws.UnreadImage.{SameButUnread, same-but-unread, start-same, size_same, tree-unread, used-unread, free-unread, opening-unread, disc-unread, open-alike, put-alike, put-unread, put-differ}
@@ -217,14 +219,15 @@ no-influence image w b e = record {
 
 -- ---- a list of calls
 
-along-unread : (w : ℕ) (calls : List Call) (image new : List ℕ) (l : Ledger) → AllWithin w calls → Kept w image l → DifferInUnread image new → ListAlike calls image new
-unfolding image_after_all reports_of totals_after_all
-along-unread w [] image new l h k d = record { reports = refl; handed-on = λ t. refl; at-last = d }
+along-unread : (w : ℕ) (calls : List Call) (image new : List ℕ) (l : Ledger) → AllWithin w calls → Kept w image l → DifferInUnread image new → RunAlike calls image new
+unfolding image_after_all answers_of totals_after_all
+along-unread w [] image new l h k d = record { answers = refl; handed-on = λ t. refl; at-last = d }
 along-unread w (c ∷ calls) image new l h k d =
     let e : EditAlike c.edit c.account image new c.words c.bytes = edit-alike image w k.bytes k.opens new d c.edit c.account c.words c.bytes h.1 in
     let r = along-unread w calls (image_after c.edit c.account image c.words c.bytes) (image_after c.edit c.account new c.words c.bytes) _ h.2 (step w image l k c.words c.bytes h.0 c.account c.edit h.1) e.differ in
+    let p = ap (λ (x : Disc). number_behind (verdict_of c.edit c.account new c.words c.bytes) (plan_number (plan_of c.edit x))) (disc-unread image new (opened image w k.opens k.bytes) (same-but-unread image w k.bytes k.opens new d)) in
     record {
-      reports = rw (e.verdict, r.reports);
+      answers = ap (λ (x : Result ℕ Refusal). x ∷ answers_of calls (image_after c.edit c.account new c.words c.bytes)) p ∙ rw (e.verdict, r.answers);
       handed-on = λ t. rw e.totals (r.handed-on (totals_after c.edit c.account image c.words c.bytes));
       at-last = r.at-last;
     }

@@ -1,9 +1,10 @@
--- What neither opening nor an edit reads, along a list of calls: a fill with as many bytes as the file has, which writes no table, a move that is refused, and one that
--- is accepted, on the twins and on the images that store what is false. Assumes nothing.
-use Rattle.std.specs.Prelude.{Ok, Err}
-use Rattle.std.specs.Prelude.{ℕ, ◌≡◌, refl, true, false, List, [], ◌∷◌, slice_index}
+-- What neither opening nor an edit reads, along a list of calls: a fill with as many bytes as the file has, which writes no table, a move that is
+-- refused, and one that is accepted, on the twins and on the images that store what is false. Assumes nothing.
+use Rattle.std.specs.Prelude.{Result, Ok, Err}
+use Rattle.std.specs.Prelude.{ℕ, ◌≡◌, refl, List, [], ◌∷◌, slice_index}
 use Rattle.std.proofs.Common.{ap, arith, ◌∙◌}
 use Rattle.endian.specs.Bytes.{be32, put, AllBytes}
+use Rattle.refusal.specs.declared.Refusal.{Refusal}
 use Rattle.refusal.specs.declared.Refusal.TheVariants.{NotEnoughSpace}
 use Rattle.tree.specs.Table.{parent_below, parent_of, entries_bytes, texts_of, encode}
 use Rattle.tree.specs.Insert.{set_place}
@@ -15,10 +16,10 @@ use Rattle.totals.specs.Totals.{remainders, team_verdict, totals_verdict, moved_
 use Rattle.opened.specs.Opening.{disc_of}
 use Rattle.edit_rules.specs.Change.{nothing, change, filled, image_with_table, written_image}
 use Rattle.edit_rules.specs.Edits.{Edit, Account, account, fill_file, relocation_change, plan_move, plan_resize, plan_fill, plan_of, plan_verdict, counted_verdict, verdict_of, image_after}
-use Rattle.ledger.specs.Ledger.{Report}
-use Rattle.ledger.specs.Runs.{Call, image_after_all, reports_of, totals_after_all, AllWithin}
+use Rattle.ledger.specs.Lists.{answers_of}
+use Rattle.ledger.specs.Runs.{Call, image_after_all, totals_after_all, AllWithin}
 use Rattle.same_table.specs.Unread.{DifferInUnread}
-use Rattle.same_table.specs.Theorem.{ListAlike}
+use Rattle.same_table.specs.Theorem.{RunAlike}
 use Rattle.same_table.proofs.Laws.UnreadEdits.{no-influence, no-influence-along}
 use Rattle.worked.specs.Image.{master, master_words}
 use Rattle.worked.specs.Laws.Handed.{teams_after}
@@ -102,8 +103,8 @@ call ed a = record { edit = ed; account = a; words = master_words; bytes = 0x37 
 unfoldable pub list : List Call
 list = call over before ∷ call move_low between ∷ call move between ∷ []
 
-abbrev pub reports : List Report
-reports = record { edit = over; accepted = true } ∷ record { edit = move_low; accepted = false } ∷ record { edit = move; accepted = true } ∷ []
+abbrev pub answers : List (Result ℕ Refusal)
+answers = Ok 3 ∷ Err NotEnoughSpace ∷ Ok 3 ∷ []
 
 all-7-bytes : AllBytes all_7
 unfolding bytes_only
@@ -116,14 +117,14 @@ within = (omega arith, all-7-bytes, (omega arith, omega arith, (omega arith, ome
 -- of the twins
 record Worked : Type 0 where
   pub image : image_after_all list twins ≡ sevens_moved
-  pub told : reports_of list twins ≡ reports
+  pub told : answers_of list twins ≡ answers
   pub counted : (t : Totals) → totals_after_all t list twins ≡ held 1399 6144 2 2
 
 worked : Worked
-unfolding list image_after_all reports_of totals_after_all
+unfolding list image_after_all answers_of totals_after_all
 worked = record {
   image = rw (fills.written, refuses.written, moves-it.written);
-  told = rw (fills.answered, fills.written, refuses.answered, refuses.written, moves-it.answered);
+  told = rw (fills.answered, over-there, fills.written, refuses.answered, refuses.written, moves-it.answered, move-there);
   counted = λ t. rw (fills.written, refuses.written, moves-it.counted);
 }
 
@@ -137,7 +138,7 @@ pub record IsAlikeAlong (new : List ℕ) : Type 0 where
   pub filled : verdict_of over before new master_words 0x37 ≡ Ok tt
   pub fill-bytes : (slice_index (after_fill new) 0x44B ≡ 4) × (slice_index (after_fill new) 0x500 ≡ 7)
   -- the three answers, and the record at last
-  pub told : reports_of list new ≡ reports
+  pub told : answers_of list new ≡ answers
   pub counted : (t : Totals) → totals_after_all t list new ≡ held 1399 6144 2 2
   -- and at last a byte of the file's offset, and of the file, where it lies then
   pub bytes : (slice_index (image_after_all list new) 0x46A ≡ 7) × (slice_index (image_after_all list new) 0x700 ≡ 7)
@@ -147,12 +148,12 @@ alike-along new u =
     let n = no-influence twins master_words at-twins.bytes at-twins.opens in
     let f = n.edits new u over before master_words 0x37 all-7-bytes in
     let d : DifferInUnread sevens (after_fill new) = rw fills.written at f.differ in
-    let l : ListAlike list twins new = no-influence-along twins new master_words master_words list at-twins.bytes at-twins.opens within u in
+    let l : RunAlike list twins new = no-influence-along twins new master_words master_words list at-twins.bytes at-twins.opens within u in
     let m : DifferInUnread sevens_moved (image_after_all list new) = rw worked.image at l.at-last in
     record {
       filled = f.verdict ∙ fills.answered;
       fill-bytes = (byte-of d bytes.next-then, byte-of d bytes.filled);
-      told = l.reports ∙ worked.told;
+      told = l.answers ∙ worked.told;
       counted = λ t. l.handed-on t ∙ worked.counted t;
       bytes = (byte-of m bytes.offset, byte-of m bytes.moved);
     }
