@@ -1,6 +1,6 @@
-// Same tree, same table. Each theorem is the promise of a function that does nothing, so that a crate whose
-// contracts hold is one in which they hold: what they say is in specs/Theorem.antt, and why they hold in
-// proofs/Laws/.
+// Same tree, same table. Each theorem is the promise of a function that does nothing, so that a
+// crate whose contracts hold is one in which they hold: what they say is in specs/Theorem.antt, and
+// why they hold in proofs/Laws/.
 #![tactic(auto)]
 
 ghost use Rattle.same_table.specs.Theorem.{WholeTree, WrittenTable, SameTable, SameTree};
