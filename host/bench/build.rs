@@ -19,7 +19,7 @@ use std::process::Command;
 const PLACES: usize = 4;
 
 /// The calls that an earlier library is held against.
-const CALLS: [&str; 16] = [
+const CALLS: [&str; 17] = [
     "open",
     "totals",
     "lookup",
@@ -36,6 +36,7 @@ const CALLS: [&str; 16] = [
     "resize_copy",
     "resize_table",
     "zero",
+    "sheet",
 ];
 
 /// What a library moves and zeroes bytes with.

@@ -11,8 +11,8 @@
  * Every function returns 0 where it is accepted, and else the number of the first test that failed; counter_cause tells it in words.
  *
  * An answer goes into slots that the caller lends, as many as the prototype says, in the order given below; with a number other than 0 they
- * stay as they were. Slots have no length: `uint32_t answer[4]` is a pointer to four words, of which a caller owes the
- * same as of a slice.
+ * stay as they were, but for the one of counter_sheet. Slots have no length: `uint32_t answer[4]` is a pointer to four words, of which a
+ * caller owes the same as of a slice.
  *
  * An entry is a file or a directory, with its number in the table; the root is entry 0. FST is the file table, DOL the program.
  *
@@ -26,8 +26,8 @@
  * to the table's end, or wholly from the table's end on, where it is a used region of its own. All else below the disc end is free. No edit
  * alters the program.
  *
- * words, and for edits, parts of edits and a new master bytes, are working memory. Whatever they held, they are zero afterwards, on
- * refusals too. With too little the call returns 9 (counter_fault and counter_report tell it):
+ * words, and for edits, parts of edits, edit sheets and a new master bytes, are working memory. Whatever they held, they are zero
+ * afterwards, on refusals too. With too little the call returns 9 (counter_fault and counter_report tell it):
  *
  *     words   4 * (n + 2) for an image with n entries (of the new table, if that has more). COUNTER_MOST_WORDS are enough for every image.
  *     bytes   as many as the new table has. No name is shared in it, so it may be larger than the table that is there: 12 for each entry,
@@ -41,12 +41,12 @@
  *     counter_free_clusters  COUNTER_CLUSTER_WORDS * (n + 1) words
  *
  * Every call that takes words opens the image first, and refuses what opening refuses (counter_fault tells it instead, and counter_report
- * writes it; counter_master asks nothing of what the image holds). Its tests, in this order: the header's fields (1),
- * Wii magic (2), GameCube magic (3); 4; the root (5, 6, 7); more entries than COUNTER_MOST_ENTRIES (9); each further entry in turn (5, 6);
- * 8; more bytes of names than COUNTER_MOST_TEXT (9); too few words (9); a count of 0 (10); then each entry: 11, 12, 13 (not the root's), 10, a directory
- * deeper than COUNTER_MOST_LEVELS (9); then 24, for a DOL offset other than 0: the program's header passes the image, or one of its sums of
- * offset and size passes 2^32 - 1; then 14: two used regions overlap or one passes the disc end, or the program lies in neither of its places. The
- * calls' own tests follow, in the order in which their comments give them.
+ * writes it; counter_sheet reads its sheet before; counter_master asks nothing of what the image holds). Its tests, in this order: the
+ * header's fields (1), Wii magic (2), GameCube magic (3); 4; the root (5, 6, 7); more entries than COUNTER_MOST_ENTRIES (9); each further
+ * entry in turn (5, 6); 8; more bytes of names than COUNTER_MOST_TEXT (9); too few words (9); a count of 0 (10); then each entry: 11, 12,
+ * 13 (not the root's), 10, a directory deeper than COUNTER_MOST_LEVELS (9); then 24, for a DOL offset other than 0: the program's header
+ * passes the image, or one of its sums of offset and size passes 2^32 - 1; then 14: two used regions overlap or one passes the disc end, or
+ * the program lies in neither of its places. The calls' own tests follow, in the order in which their comments give them.
  */
 #ifndef COUNTER_H
 #define COUNTER_H
@@ -78,18 +78,21 @@ extern "C" {
 #define COUNTER_UNIT_SLOTS 2
 #define COUNTER_FAULT_SLOTS 4
 #define COUNTER_SPAN_SLOTS 2
+#define COUNTER_SHEET_HEADER_BYTES 16
+#define COUNTER_SHEET_LINE_BYTES 16
 
 /* ---- whose a used region is, in the slots of counter_fault: a file's by its number, from 1 on */
 
 #define COUNTER_OF_TABLE 0 /* the bytes from 0 up to the table's end */
 #define COUNTER_OF_PROGRAM UINT32_MAX
 
-/* ---- limits of an image that opens and of what an edit makes; and of a path */
+/* ---- limits of an image that opens and of what an edit makes; of a path, and of a sheet */
 
 #define COUNTER_MOST_ENTRIES 16384 /* with the root */
 #define COUNTER_MOST_TEXT 1048576  /* bytes of names, each with a zero byte behind it */
 #define COUNTER_MOST_LEVELS 64     /* directories below the root, one in another */
-#define COUNTER_MOST_PATH 1024     /* bytes of a path that is passed in */
+#define COUNTER_MOST_PATH 1024     /* bytes of a path that is passed in, or that a sheet's line has */
+#define COUNTER_MOST_LINES 1024    /* lines of an edit sheet */
 #define COUNTER_MOST_REGIONS (COUNTER_MOST_ENTRIES + 1)
 #define COUNTER_MOST_WORDS (4 * (COUNTER_MOST_ENTRIES + 2))
 #define COUNTER_MOST_TABLE (12 * COUNTER_MOST_ENTRIES + COUNTER_MOST_TEXT)
@@ -130,6 +133,7 @@ static inline const char *counter_cause(uint32_t number)
         "taken bytes above the team's limit",
         "free bytes below the other teams' shares",
         "span to be zeroed not wholly free",
+        "no edit sheet: its count, bounds, or a line's kind, fields or path",
     };
     return number < sizeof causes / sizeof causes[0] ? causes[number] : NULL;
 }
@@ -359,6 +363,29 @@ uint32_t counter_resize_table(uint8_t *image, size_t image_len, uint32_t *words,
 /* The zeros: writes 0 into `size` bytes from `offset` on. 29 if not each of them is free and below the disc end (the end is a whole number,
  * and never wraps); the image then is as it was. With size 0 any offset is accepted. It takes no bytes, no record and no team. */
 uint32_t counter_zero(uint8_t *image, size_t image_len, uint32_t *words, size_t words_len, uint32_t offset, uint32_t size);
+
+/* ---- an edit sheet: a list of edits in one piece of bytes */
+
+/* Runs a sheet: its lines in order, up to the first that is refused. line[1], which is written whatever the answer is: the number of that
+ * line, from 1; 0 where all ran, and for a refusal before the first. Image and record are those after the lines before it, so the line that
+ * is refused has changed nothing. One team goes with all of them, and words and bytes are lent to each, as many as the edits want.
+ *
+ * A sheet holds numbers of 32 bits, the highest byte first. Its header has four: how many lines; where they begin in the sheet; where the
+ * texts begin in the sheet; how many bytes the texts have. A line has four: its kind; where its path begins in the texts, up to the next
+ * zero byte; the new offset, 0 but for kind 3; the new size, 0 but for kind 4. Lines, texts and header may overlap each other.
+ *
+ *     1  counter_insert_directory    the path is cut at its last byte '/' alone: what is before leads to the parent, as a counter_lookup
+ *     2  counter_insert_file         from the root (17, 18), and what is behind is the name; without a '/' the root is the parent
+ *     3  counter_move_file           of the entry that the whole path leads to, as a counter_lookup from the root
+ *     4  counter_resize_file
+ *
+ * The whole sheet is checked before the image is looked at: 30, with line 0, for fewer bytes than a header; more than COUNTER_MOST_LINES
+ * lines; lines or texts, also none, that end past the sheet; and of any line, also one behind a line that would be refused, a kind that is
+ * none of these, a new offset or size that is not 0 where it must be, or a path with no zero byte from its begin to the texts' end. Then
+ * opening, and then 15 for a team above 15, both with line 0, of a sheet without lines too. Then each line in turn: a path over
+ * COUNTER_MOST_PATH bytes, its zero byte not counted, 9; 17, 18 along it; then as the edit. */
+uint32_t counter_sheet(uint8_t *image, size_t image_len, uint32_t *words, size_t words_len, uint8_t *bytes, size_t bytes_len,
+    uint32_t record[COUNTER_RECORD_SLOTS], uint32_t team, const uint8_t *sheet, size_t sheet_len, uint32_t line[1]);
 
 /* ---- a new master */
 

@@ -27,6 +27,7 @@ use Rattle.executable.specs.Program.{Program}
 use Rattle.window.specs.declared.Window.{Window}
 use Rattle.edit_rules.specs.Edits.{number_behind}
 use Rattle.steps.specs.Promise.{span_behind}
+use Rattle.sheet_run.specs.declared.run.Refused.{Refused}
 
 -- the number that a call returns, and its slots afterwards
 pub record Reply : Type 0 where
@@ -154,3 +155,9 @@ entry_reply before v k = reply_of one_word before (number_behind v k)
 
 abbrev pub span_reply : List ℕ → Verdict → DiscRegion → Reply
 span_reply before v span = reply_of region_words before (span_behind v span)
+
+-- ---- a sheet: the number, and the line that is refused; 0 where all lines ran
+
+abbrev pub sheet_reply : Result (Unit {0}) Refused → Reply
+sheet_reply (Ok _) = accepted_reply (one_word 0)
+sheet_reply (Err r) = reply (number_of r.cause) (one_word r.line)

@@ -10,6 +10,7 @@ mod masters;
 mod names;
 mod reading;
 mod regions;
+mod sheets;
 mod text;
 mod three_calls;
 mod windows;
@@ -29,6 +30,7 @@ pub use regions::{
     counter_allocate, counter_free_clusters, counter_free_regions, counter_max_file_size,
     counter_max_region_size,
 };
+pub use sheets::counter_sheet;
 pub use text::{counter_list, counter_report};
 pub use three_calls::{
     counter_move_copy, counter_move_table, counter_resize_copy, counter_resize_table, counter_zero,

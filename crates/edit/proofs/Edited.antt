@@ -66,7 +66,7 @@ counted : (p : Plan) (image : List ℕ) (words room : ℕ) (d : Result Decision 
 unfolding counted_verdict
 counted p image words room d x y a t' e n = rw e n
 
--- ---- an edit: opening and the team, then its plan
+-- ---- an edit: the team, then its plan
 
 module _ (ed : Edit) (h : IsPassable ed) (image : List ℕ) (d : Opened) (m : Means image d) (room : ℕ) (bytes clip : List ℕ) (long : length bytes ≡ room) where
   module _ (r : Result Decision Refusal) (decided : DecidedAs (plan_verdict (plan_of ed (disc_of image)) (disc_of image) d.words room) (plan_of ed (disc_of image)) image room bytes clip r) where
@@ -84,12 +84,11 @@ module _ (ed : Edit) (h : IsPassable ed) (image : List ℕ) (d : Opened) (m : Me
 
     -- entered in the record of one of its teams
     pub open-accounted : (x : Accounted) (a : Account) → team_verdict a.team ≡ Ok tt → OfUsed d (λ image' behind. x ≡ account_of image' behind r a) →
-        IsAccountedFor (plan_behind (first (opening image d.words) (team_verdict a.team)) (plan_of ed (disc_of image))) image d.words room bytes clip a x
+        IsAccountedFor (plan_behind (team_verdict a.team) (plan_of ed (disc_of image))) image d.words room bytes clip a x
     open-accounted x a team q =
         let n = laws.entered image q.words q.count room bytes long a (q.held image m) new (plan_of ed (disc_of image)) clip r (rw (← q.long) at decided) (rw (← q.long) at laid) in
         let f = entered-account_with (plan_of ed (disc_of image)) image d.words room bytes clip a r x decided (counted (plan_of ed (disc_of image)) image d.words room r x _ a _ (q.is image m) (rw q.long at n)) in
-        let o : first (opening image d.words) (team_verdict a.team) ≡ Ok tt = rw (m.known.passed, team) refl in
-        rw (behind-passed (first (opening image d.words) (team_verdict a.team)) (plan_of ed (disc_of image)) o) f
+        rw (behind-passed (team_verdict a.team) (plan_of ed (disc_of image)) team) f
 
 -- a team's number as an index
 pub numbered : (k j : ℕ) → Ok j ≡ numbered_team k → (team_verdict k ≡ Ok tt) × (j ≡ k) × (j < 16)
@@ -117,8 +116,8 @@ module _ (p : Plan) (image : List ℕ) (words : ℕ) (c : Refusal) (room : ℕ) 
   unopened o = behind (first (opening image words) (team_verdict a.team)) (rw o refl)
 
   -- for the team
-  pub teamless : opening image words ≡ Ok tt → Err c ≡ numbered_team a.team → IsAccountedFor (plan_behind (first (opening image words) (team_verdict a.team)) p) image words room bytes clip a x
-  teamless o q = behind (first (opening image words) (team_verdict a.team)) (rw (o, not-numbered a.team c q) refl)
+  pub teamless : Err c ≡ numbered_team a.team → IsAccountedFor (plan_behind (team_verdict a.team) p) image words room bytes clip a x
+  teamless q = behind (team_verdict a.team) (not-numbered a.team c q)
 
 -- ---- the whole edit
 

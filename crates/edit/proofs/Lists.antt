@@ -12,7 +12,7 @@ use Rattle.edit_rules.specs.Edits.{account, number_behind, image_after, totals_a
 use Rattle.edit_rules.specs.Promise.{loan, IsEdited}
 use Rattle.ledger.specs.Ledger.{first_ledger}
 use Rattle.ledger.specs.Runs.{IsPassable, AllWithin, IsHandedOn, image_after_all, totals_after_all}
-use Rattle.ledger.specs.Lists.{Turn, calls_of, answers_of, AppliesInTurn, LedgerHoldsAfter, TellsAfter, SharesHoldAfter}
+use Rattle.ledger.specs.Lists.{Turn, calls_of, answers_of, calls_with, AppliesInTurn, LedgerHoldsAfter, TellsAfter, SharesHoldAfter}
 use Rattle.ledger.proofs.Laws.Sequence.{start}
 use Rattle.ledger.proofs.Laws.Steps.{step}
 use Rattle.ledger.proofs.Laws.AfterAnyList.{ledger-holds}
@@ -102,15 +102,15 @@ module _ (turns : List Turn) (first ws bs : List ℕ) (t₀ : Totals) (old : Lis
     unfolding answers_of image_after_all totals_after_all
     none-applied zw zb = record { verdict = rw short; image = rw short; totals = rw short; answers = rw short; words = zw; bytes = zb }
 
-    pub none-holds : AllBytes first → LedgerHoldsAfter (length old) turns (loan first ws bs t₀) (loan first ws' bs' t₀)
+    pub none-holds : AllBytes first → LedgerHoldsAfter (calls_with (length old) turns (loan first ws bs t₀)) (loan first ws bs t₀) (loan first ws' bs' t₀)
     unfolding image_after_all
     none-holds b o = rw short (ledger-holds first (length ws) (length ws) [] b o (omega arith) tt)
 
-    pub none-tells : AllBytes first → TellsAfter (length old) turns (loan first ws bs t₀) (loan first ws' bs' t₀)
+    pub none-tells : AllBytes first → TellsAfter (calls_with (length old) turns (loan first ws bs t₀)) (loan first ws bs t₀) (loan first ws' bs' t₀)
     unfolding image_after_all totals_after_all
     none-tells b limits shares nl ns m = rw short (record-tells first (length ws) (length ws) limits shares t₀ [] b nl ns m (omega arith) tt tt)
 
-    pub none-share : AllBytes first → SharesHoldAfter (length old) turns (loan first ws bs t₀) (loan first ws' bs' t₀)
+    pub none-share : AllBytes first → SharesHoldAfter (calls_with (length old) turns (loan first ws bs t₀)) (loan first ws bs t₀) (loan first ws' bs' t₀)
     unfolding image_after_all totals_after_all
     none-share b o fair = rw short (teams-served first (length ws) (length ws) t₀ [] b o (omega arith) tt tt fair)
 
@@ -128,15 +128,15 @@ module _ (turns : List Turn) (first ws bs : List ℕ) (t₀ : Totals) (old : Lis
     pub all-applied : ws' ≡ zeros ws → bs' ≡ zeros bs → AppliesInTurn turns (loan first ws bs t₀) (loan last ws' bs' t) old now (Ok tt)
     all-applied zw zb = record { verdict = rw long; image = rw long done.image; totals = rw long done.totals; answers = rw long done.answers; words = zw; bytes = zb }
 
-    pub all-hold : AllBytes first → LedgerHoldsAfter (length old) turns (loan first ws bs t₀) (loan last ws' bs' t)
+    pub all-hold : AllBytes first → LedgerHoldsAfter (calls_with (length old) turns (loan first ws bs t₀)) (loan first ws bs t₀) (loan last ws' bs' t)
     all-hold b o = rw (long, done.image) (ledger-holds first (length ws) (length ws) (calls_of turns t₀ first (length ws) (length bs)) b o (omega arith) (done.within o))
 
-    pub all-tell : AllBytes first → TellsAfter (length old) turns (loan first ws bs t₀) (loan last ws' bs' t)
+    pub all-tell : AllBytes first → TellsAfter (calls_with (length old) turns (loan first ws bs t₀)) (loan first ws bs t₀) (loan last ws' bs' t)
     all-tell b limits shares nl ns m =
         let o = (made_of first (length ws) limits shares t₀ m).0 in
         rw (long, done.image, done.totals) (record-tells first (length ws) (length ws) limits shares t₀ (calls_of turns t₀ first (length ws) (length bs)) b nl ns m (omega arith) (done.within o) passed-on)
 
-    pub all-share : AllBytes first → SharesHoldAfter (length old) turns (loan first ws bs t₀) (loan last ws' bs' t)
+    pub all-share : AllBytes first → SharesHoldAfter (calls_with (length old) turns (loan first ws bs t₀)) (loan first ws bs t₀) (loan last ws' bs' t)
     all-share b o fair =
         rw (long, done.image, done.totals) (teams-served first (length ws) (length ws) t₀ (calls_of turns t₀ first (length ws) (length bs)) b o (omega arith) (done.within o) passed-on fair)
 

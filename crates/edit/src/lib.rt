@@ -28,9 +28,9 @@ pub use anew::table_anew;
 pub use calls::{
     fill_file, insert_directory, insert_file, make_directories, move_file, resize_file, rewrite,
 };
-pub use decision::{Decision, Span, Writing};
+pub use decision::{Decision, Span, Writing, finish};
 pub use list::{Turn, apply_all};
 pub use new_entry::NewEntry;
-pub use pipeline::{Edit, copy_part, decide, done, judge, judge_image, run, table_part};
+pub use pipeline::{Edit, copy_part, decide, done, enter, judge, judge_image, run, table_part};
 pub use place_edit::PlaceEdit;
 pub use table_writing::Kind;

@@ -1,7 +1,8 @@
 // A list of edits, applied in turn as one call.
 ghost use Rattle.std.specs.Prelude.{length, map};
 ghost use Rattle.edit_rules.specs.Promise.{loan};
-ghost use Rattle.ledger.specs.Lists.{AppliesInTurn, LedgerHoldsAfter, TellsAfter, SharesHoldAfter};
+ghost use Rattle.ledger.specs.Lists.{calls_with, AppliesInTurn};
+ghost use Rattle.ledger.specs.Lists.{LedgerHoldsAfter, TellsAfter, SharesHoldAfter};
 ghost use Rattle.edit.specs.Asked.{turn_of};
 
 use crate::pipeline;
@@ -35,13 +36,16 @@ pub fn apply_all(
         AppliesInTurn (map turn_of turns.now) before after answers.old answers.new result }
     ensures ledger_holds { let before = loan image.old words.old bytes.old totals.old in
         let after = loan image.new words.new bytes.new totals.new in
-        LedgerHoldsAfter (length answers.old) (map turn_of turns.now) before after }
+        let calls = calls_with (length answers.old) (map turn_of turns.now) before in
+        LedgerHoldsAfter calls before after }
     ensures record_tells { let before = loan image.old words.old bytes.old totals.old in
         let after = loan image.new words.new bytes.new totals.new in
-        TellsAfter (length answers.old) (map turn_of turns.now) before after }
+        let calls = calls_with (length answers.old) (map turn_of turns.now) before in
+        TellsAfter calls before after }
     ensures shares_hold { let before = loan image.old words.old bytes.old totals.old in
         let after = loan image.new words.new bytes.new totals.new in
-        SharesHoldAfter (length answers.old) (map turn_of turns.now) before after }
+        let calls = calls_with (length answers.old) (map turn_of turns.now) before in
+        SharesHoldAfter calls before after }
 {
     let words = Lent::new(words);
     let bytes = Lent::new(bytes);

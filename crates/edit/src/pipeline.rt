@@ -7,8 +7,8 @@ ghost use Rattle.totals.specs.Totals.{team_verdict};
 ghost use Rattle.edit_rules.specs.Edits.{account, plan_behind, plan_of, number_behind};
 ghost use Rattle.edit_rules.specs.Promise.{loan, only_verdict, IsEdited};
 ghost use Rattle.ledger.specs.Runs.{IsPassable};
-ghost use Rattle.edit.specs.Inner.Accounting.{account_with, IsAccountedFor, IsForeseen};
-ghost use Rattle.edit.specs.Inner.Accounting.{IsCopied, IsTabled};
+ghost use Rattle.edit.specs.Inner.Accounting.{account_with, IsAccountedFor, IsEntered};
+ghost use Rattle.edit.specs.Inner.Accounting.{IsForeseen, IsCopied, IsTabled};
 ghost use Rattle.edit.specs.Inner.Decision.{Judges};
 ghost use Rattle.edit.specs.Asked.{edit_of, place_edit_of, IsPlaceEdit};
 ghost use Rattle.edit.specs.Inner.Decides.{IsEditDecided, clip_of};
@@ -84,8 +84,30 @@ pub fn decide(disc: &OpenDisc<'_>, bytes: &mut [u8], edit: Edit<'_>) -> Result<D
     }
 }
 
-/// What is decided on, once opening, the team and the record are tested too, and the record moved on by it.
-/// The team is the first test after opening, the record's tests are the last.
+/// What an edit decides on, on an open disc, once the team and the record are tested too, and the record moved
+/// on by it. The team is the first test, the record's tests are the last.
+pub fn enter(
+    disc: &OpenDisc<'_>,
+    bytes: &mut [u8],
+    totals: &mut Totals,
+    team: u32,
+    edit: Edit<'_>,
+) -> Result<Decision, Refusal>
+    ensures entered { let plan = plan_of (edit_of edit.entry) disc.now.disc in
+        let clip = clip_of edit.entry in
+        IsEntered (plan_behind (team_verdict team) plan) disc.now (length bytes.old) bytes.new clip
+        (account totals.old team) (account_with result totals.new) }
+    ensures passable { IsPassable (edit_of edit.entry) }
+{
+    // Some image means an open disc.
+    let _ = &disc.table;
+    edit.passable();
+    let team = totals::team_number(team)?;
+    let decided = decide(disc, bytes, edit);
+    account::account(disc, decided, totals, team)
+}
+
+/// What is decided on, once opening is tested too.
 // Kept: `image`, `words`, `bytes`, `totals` one by one, here and below (N): each is written or zeroed apart
 // from the others, and a struct of four `&mut` would have each contract name the loan of each field.
 fn decide_image(
@@ -104,9 +126,7 @@ fn decide_image(
         (account totals.old team) (account_with result totals.new) }
 {
     let disc = OpenDisc::of_image(image, words)?;
-    let team = totals::team_number(team)?;
-    let decided = decide(&disc, bytes, edit);
-    account::account(&disc, decided, totals, team)
+    enter(&disc, bytes, totals, team, edit)
 }
 
 /// A move or a resize judged on an open disc, where `room` working bytes are lent: as `decide`, but that no

@@ -1,5 +1,5 @@
--- A list of edits as one call: the calls that it comes to, what each gives back, what the one call does, and what the theorems about lists of
--- calls then say of it. Assumes nothing: these are definitions.
+-- A list of edits as one call: the calls that it comes to, what each gives back, what the one call does; and what the theorems about lists of
+-- calls then say of it, as of any call that comes to such a list. Assumes nothing: these are definitions.
 use Rattle.std.specs.Prelude.{Result, Ok, ℕ, ◌≡◌, ◌++◌, nat_lt, if◌then◌else◌, List, [], ◌∷◌, length, drop}
 use Rattle.refusal.specs.declared.Refusal.{Refusal}
 use Rattle.refusal.specs.declared.Refusal.TheVariants.{LimitOrMemory}
@@ -9,7 +9,7 @@ use Rattle.opened.specs.Opening.{zeros, opening, disc_of}
 use Rattle.disc.specs.Calls.{record_answer}
 use Rattle.edit_rules.specs.Edits.{Edit, account, plan_of, plan_number, number_behind, verdict_of, image_after, totals_after}
 use Rattle.edit_rules.specs.Promise.{Loan}
-use Rattle.ledger.specs.Ledger.{first_ledger, Report, ledger_after}
+use Rattle.ledger.specs.Ledger.{first_ledger, ledger_after}
 use Rattle.ledger.specs.Runs.{Call, image_after_all, reports_of, totals_after_all, team_after_all}
 use Rattle.ledger.specs.Theorem.{LedgerHolds, Tells, IsFairStart, SharesHold, SharesSuffice}
 
@@ -36,10 +36,6 @@ answers_of (c ∷ calls) image =
 abbrev pub calls_with : ℕ → List Turn → Loan → List Call
 calls_with room turns l = if nat_lt room (length turns) then [] else calls_of turns l.totals l.image (length l.words) (length l.bytes)
 
--- what the ledger is told of them
-abbrev pub reports_with : ℕ → List Turn → Loan → List Report
-reports_with room turns l = reports_of (calls_with room turns l) l.image
-
 -- every byte of the image, the record, each answer, and the working memory, which is zero; answers beyond the turns stay as they were
 pub record AppliesInTurn (turns : List Turn) (before after : Loan) (old new : List (Result ℕ Refusal)) (r : Verdict) : Type 0 where
   pub verdict : r ≡ refuse (nat_lt (length old) (length turns)) LimitOrMemory (Ok tt)
@@ -49,22 +45,24 @@ pub record AppliesInTurn (turns : List Turn) (before after : Loan) (old new : Li
   pub words : after.words ≡ zeros before.words
   pub bytes : after.bytes ≡ zeros before.bytes
 
--- an image that opens with the lent words: what holds after any list of calls holds of the image afterwards, by the ledger of these reports
-abbrev pub LedgerHoldsAfter : ℕ → List Turn → Loan → Loan → Type 0
-LedgerHoldsAfter room turns before after =
+-- ---- what the theorems about lists of calls say of the image and the record that a call leaves, if it comes to these calls
+
+-- an image that opens with the lent words: what holds after any list of calls holds of the image afterwards, by the list's ledger
+abbrev pub LedgerHoldsAfter : List Call → Loan → Loan → Type 0
+LedgerHoldsAfter calls before after =
     opening before.image (length before.words) ≡ Ok tt →
-    LedgerHolds (length before.words) before.image after.image (ledger_after (reports_with room turns before) (first_ledger before.image))
+    LedgerHolds (length before.words) before.image after.image (ledger_after (reports_of calls before.image) (first_ledger before.image))
 
 -- a record that was made of the image with the lent words: it tells what one made afresh would, and what each team has taken since, in how many
 -- accepted edits
-abbrev pub TellsAfter : ℕ → List Turn → Loan → Loan → Type 0
-TellsAfter room turns before after =
+abbrev pub TellsAfter : List Call → Loan → Loan → Type 0
+TellsAfter calls before after =
     (limits shares : List ℕ) → length limits ≡ 16 → length shares ≡ 16 →
     record_answer before.image (length before.words) limits shares ≡ Ok before.totals →
-    Tells after.image (length before.words) (team_after_all limits shares (calls_with room turns before) before.image) after.totals
+    Tells after.image (length before.words) (team_after_all limits shares calls before.image) after.totals
 
--- an image that opens with the lent words, nothing taken and all shares free: the shares hold, and suffice at each turn
-abbrev pub SharesHoldAfter : ℕ → List Turn → Loan → Loan → Type 0
-SharesHoldAfter room turns before after =
+-- an image that opens with the lent words, nothing taken and all shares free: the shares hold, and suffice at each call
+abbrev pub SharesHoldAfter : List Call → Loan → Loan → Type 0
+SharesHoldAfter calls before after =
     opening before.image (length before.words) ≡ Ok tt → IsFairStart before.image before.totals →
-    SharesHold before.totals after.image after.totals × SharesSuffice (calls_with room turns before) before.image
+    SharesHold before.totals after.image after.totals × SharesSuffice calls before.image

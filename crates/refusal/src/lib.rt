@@ -43,10 +43,11 @@ pub enum Refusal {
     TakenAboveLimit = 27,
     FreeBelowShares = 28,
     SpanNotFree = 29,
+    InvalidSheet = 30,
 }
 
 impl Refusal {
-    /// The number of the cause, 1 to 29.
+    /// The number of the cause, 1 to 30.
     pub fn number(self) -> u32
         ensures { result ≡ number_of self }
     {
@@ -88,6 +89,8 @@ impl fmt::Display for Refusal {
             Refusal::TakenAboveLimit => "taken bytes above the team's limit",
             Refusal::FreeBelowShares => "free bytes below the other teams' shares",
             Refusal::SpanNotFree => "span to be zeroed not wholly free",
+            Refusal::InvalidSheet =>
+                "no edit sheet: its count, bounds, or a line's kind, fields or path",
         })
     }
 }

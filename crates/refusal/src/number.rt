@@ -55,6 +55,7 @@ impl TryFrom<u32> for Refusal {
             27 => Ok(Refusal::TakenAboveLimit),
             28 => Ok(Refusal::FreeBelowShares),
             29 => Ok(Refusal::SpanNotFree),
+            30 => Ok(Refusal::InvalidSheet),
             _ => Err(NoCause(number)),
         }
     }

@@ -22,6 +22,6 @@ pub use components::Components;
 pub use entries::Table;
 pub use name::text_length;
 pub use name_tests::{is_plain, is_safe, units_verdict};
-pub use path::{find, is_going_back, is_staying};
+pub use path::{find, is_going_back, is_staying, lookup};
 pub use rows::list_entries;
 pub use units::{Unit, Units};

@@ -23,6 +23,13 @@ pub mod Records
 pub mod SameTables
 pub mod SameTablesAlong
 pub mod SameTablesApplied
+pub mod SheetCounts
+pub mod SheetImages
+pub mod SheetLayouts
+pub mod SheetSteps
+pub mod Sheets
+pub mod SheetsAfter
+pub mod SheetsApplied
 pub mod Steps
 pub mod StepsApplied
 pub mod Teams

@@ -33,6 +33,7 @@ mod names;
 mod places;
 mod program;
 mod record;
+mod sheet;
 mod sides;
 mod steps;
 
@@ -76,6 +77,10 @@ fn main() {
     if runs("steps") {
         steps::run(&mut misses);
         steps::run_giant(&mut misses);
+    }
+    if runs("sheet") {
+        sheet::run(&mut misses);
+        sheet::run_long_texts(&mut misses);
     }
     if runs("master") {
         master::run(&mut misses);

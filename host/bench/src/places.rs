@@ -201,6 +201,15 @@ at_four_places!(
     now_zero_0 now_zero_1 now_zero_2 now_zero_3
 );
 
+at_four_places!(
+    SHEET:
+    (
+        image: *mut u8, n: usize, words: *mut u32, m: usize, bytes: *mut u8, room: usize,
+        record: *mut u32, team: u32, sheet: *const u8, k: usize, line: *mut u32
+    )
+    now_sheet_0 now_sheet_1 now_sheet_2 now_sheet_3
+);
+
 /// The time of a call, and the number that it answers.
 fn timed(call: impl FnOnce() -> u32) -> (Duration, u32) {
     let start = Watch::start();
@@ -246,6 +255,14 @@ pub struct Case {
     pub image: Vec<u8>,
     pub words: Vec<u32>,
     pub bytes: Vec<u8>,
+}
+
+/// A line of a sheet: its kind, the path that is looked up, the name behind it of a new entry, and its new offset or size.
+pub struct Line {
+    pub kind: u32,
+    pub sought: Vec<u8>,
+    pub name: Vec<u8>,
+    pub number: u32,
 }
 
 /// What an edit took, the number that it answered, and the record that came back.
@@ -304,6 +321,50 @@ impl Case {
             Call::Rewrite => call!(REWRITE_BEFORE REWRITE),
             _ => unreachable!(),
         };
+        Edited { time, number, record: Record::of(record) }
+    }
+
+    /// A sheet, with a team that may take anything; the line is 0 where all ran.
+    pub fn sheet(&mut self, sheet: &[u8], place: usize) -> (Edited, u32) {
+        let (run, mut record, mut line) = (SHEET[place], RECORD.slots(), [0]);
+        let (r, l) = (record.as_mut_ptr(), line.as_mut_ptr());
+        let (image, n) = (self.image.as_mut_ptr(), self.image.len());
+        let (words, m) = (self.words.as_mut_ptr(), self.words.len());
+        let (bytes, room) = (self.bytes.as_mut_ptr(), self.bytes.len());
+        let (time, number) = timed(|| unsafe {
+            run(image, n, words, m, bytes, room, r, TEAM, sheet.as_ptr(), sheet.len(), l)
+        });
+        (Edited { time, number, record: Record::of(record) }, line[0])
+    }
+
+    /// The lines of a sheet as single calls, each behind the lookup of its path.
+    pub fn one_by_one(&mut self, lines: &[Line], place: usize) -> Edited {
+        let (mut record, mut entry, mut made) = (RECORD.slots(), [0; 4], [0]);
+        let (r, e, a) = (record.as_mut_ptr(), entry.as_mut_ptr(), made.as_mut_ptr());
+        let (image, n) = (self.image.as_mut_ptr(), self.image.len());
+        let (words, m) = (self.words.as_mut_ptr(), self.words.len());
+        let (bytes, room) = (self.bytes.as_mut_ptr(), self.bytes.len());
+        let lookup = LOOKUP[place];
+        let (directory, file) = (INSERT_DIRECTORY[place], INSERT_FILE[place]);
+        let (moved, resized) = (MOVE[place], RESIZE[place]);
+        let all = || unsafe {
+            for line in lines {
+                let path = line.sought.as_ptr();
+                let mut number = lookup(image, n, words, m, 0, path, line.sought.len(), e);
+                let (name, k) = (line.name.as_ptr(), line.name.len());
+                number |= match line.kind {
+                    1 => directory(image, n, words, m, bytes, room, r, TEAM, *e, name, k, a),
+                    2 => file(image, n, words, m, bytes, room, r, TEAM, *e, name, k, a),
+                    3 => moved(image, n, words, m, bytes, room, r, TEAM, *e, line.number),
+                    _ => resized(image, n, words, m, bytes, room, r, TEAM, *e, line.number),
+                };
+                if number != 0 {
+                    return number;
+                }
+            }
+            0
+        };
+        let (time, number) = timed(all);
         Edited { time, number, record: Record::of(record) }
     }
 

@@ -151,7 +151,8 @@ fn altered(change: &Change) -> Altered {
 /// The rewrite that is to write this table.
 fn tried(table: &[u8], image: &Image, desk: &mut Desk, disc: &Disc) -> Outcome<Rewrite> {
     let turn = Turn { account: fresh(image, desk)?, team: 0 };
-    match try_out(&Wish::Rewrite, &Call::Rewrite, image, desk, disc, turn) {
+    let call = Call::new(&Wish::Rewrite, image, desk)?;
+    match try_out(&Wish::Rewrite, &call, image, desk, disc, turn) {
         Ok(Trial { change, .. }) if change.new[..change.new_size as usize] == *table => {
             Ok(Rewrite::Done(altered(&change)))
         }

@@ -101,6 +101,23 @@ const SIZE: Operand = needed(
     Value::Number,
     "base ten or with 0x, with K, M or G for 2^10, 2^20, 2^30; below 2^32",
 );
+const SHEET: Operand =
+    needed("FILE", Value::File, "the sheet, a file of the system; with --compile a new one");
+const COMPILE: Flag = Flag {
+    name: "--compile",
+    value: Some(("TEXT", Value::File)),
+    words: "makes FILE of the text in TEXT, an edit a line, in the place of running it",
+};
+const SHOW: Flag = Flag {
+    name: "--show",
+    value: None,
+    words: "writes the text of FILE to standard output, in the place of running it",
+};
+const FROM_LINE: Flag = Flag {
+    name: "--from",
+    value: Some(("LINE", Value::Number)),
+    words: "begins with this line, from 1 on; those before it are checked and not run",
+};
 const CLIP: Operand =
     needed("CLIP", Value::File, "the new bytes, a file of the system, or `-`: standard input");
 const FROM: Flag = Flag {
@@ -207,8 +224,8 @@ const WITHOUT: Flag = Flag {
 const BYTES: Flag = Flag {
     name: "--bytes",
     value: None,
-    words: "names are the image's bytes, as they are: in PATH, LIST and DIR, on standard output, in a manifest and \
-            in the names of extracted files; JSON stays as it is",
+    words: "names are the image's bytes, as they are: in PATH, LIST, TEXT and DIR, on standard output, in a manifest \
+            and in the names of extracted files; JSON stays as it is",
 };
 const PATHS: Flag = Flag {
     name: "--paths",
@@ -516,6 +533,23 @@ pub const FORMS: &[Form] = &[
         )
     },
     Form {
+        flags: &[&COMPILE, &SHOW, &FROM_LINE, &RECORD, &TEAM, &DRY, &BYTES, &JSON, &WAIT],
+        more: RUN,
+        ..edit(
+            "sheet",
+            &[&IMAGE, &SHEET],
+            "runs a sheet, a list of edits in one file: it is checked whole, then each line is an edit of its own, \
+             up to the first that is refused",
+            &[
+                "counter sheet --compile day.txt day.sheet",
+                "counter sheet --show day.sheet",
+                "counter sheet disc.iso day.sheet --dry-run",
+                "counter sheet disc.iso day.sheet",
+                "counter sheet disc.iso rest.sheet --from 2",
+            ],
+        )
+    },
+    Form {
         flags: &[&ANYWAY, &WITHOUT, &JSON, &WAIT],
         more: RECOVER,
         ..edit(
@@ -595,6 +629,22 @@ has room for in memory only the publisher knows; of a game on two discs both sta
 N may be below the size of the table, which is told: then no edit that writes a table is done. The edit has a \
 journal like any other; it is none of the library's, and counts in no record (--record). `compare` tells it, and the \
 line `header: FST maximum` of LIST gives leave for it.";
+
+const RUN: &str = "\
+TEXT is a text file in UTF-8 of at most 16 MiB and 100,000 lines. A line is `mkdir PATH`, `add PATH`, `move PATH \
+OFFSET` or `resize PATH SIZE`, with a path and a number as the commands of these names take them; but mkdir makes one \
+folder, whose parent is there, and move knows no `auto`. The path goes up to the line's end, or to the number, without \
+the spaces and tabs around it, and may have spaces in it. It may stand in quotes: then \\xHH is any byte, and \\\\ and \
+\\\" stand for themselves. Empty lines, and those that begin with #, say nothing. What is wrong is told with line and \
+column (65). --show writes a text that compiles to the same lines. What a sheet is, docs/FORMAT.md tells.
+The sheet is checked before the image is looked at: where it is none (30), what is wrong is told, and nothing is done. \
+It may have 1,024 lines. Then each line is tried, has its journal, is written and synced, and is counted in the FILE of \
+--record, like an edit by its command. The first that is refused ends the sheet, with its number as exit status: the \
+lines before it are done and stay. Once what is wrong is put right, --from LINE goes on. --dry-run tells up to the first \
+refusal what each line would do, on what the lines before it would leave, and the record then.
+A sheet's journal stays from one line to the next. So wherever a sheet is cut, `counter recover` and the next edit \
+finish the line that was cut and tell which it is, and with which the sheet goes on. `counter sheet` does so too, and \
+then begins with no line of the same sheet unless --from says with which (64): it might have been run already.";
 
 const COMPARE: &str = "\
 LIST is a text file in UTF-8 of at most 16 MiB and 100,000 lines, one path a line as PATH is given; a line that ends in / stands for that folder and all in it. / \
@@ -712,6 +762,12 @@ pub struct Args {
     pub given: Vec<PathBuf>,
     /// The other image, and behind a `:` a path in it; or the list of a new master's files.
     pub from: Option<PathBuf>,
+    /// The text that a sheet is made of.
+    pub compile: Option<PathBuf>,
+    /// A sheet is shown as text.
+    pub show: bool,
+    /// The line with which a sheet begins.
+    pub first: Option<u32>,
     pub record: Option<PathBuf>,
     /// The list of a record's teams, and the team that an edit goes by.
     pub teams: Option<PathBuf>,
@@ -745,6 +801,16 @@ impl Args {
         self.from.is_some() && self.form.operands.iter().any(|operand| operand.name == "CLIP")
     }
 
+    /// Whether something else stands in the place of IMAGE.
+    fn is_without_image(&self) -> bool {
+        self.demo || self.compile.is_some() || self.show
+    }
+
+    /// Whether the built-in small master does.
+    pub fn shows_built_in(&self) -> bool {
+        self.image.is_none() && self.compile.is_none() && !self.show
+    }
+
     /// The files and folders that it is to make.
     pub fn made(&self) -> Vec<&Path> {
         let behind = self.form.operands.iter().skip(1);
@@ -752,7 +818,8 @@ impl Args {
         let image = self.image.as_ref().filter(|_| self.form.group == Group::Make);
         let options = [&self.out, &self.map].into_iter().flatten().chain(image);
         let options = options.map(PathBuf::as_path);
-        new.map(|(_, path)| Path::new(path)).chain(options).collect()
+        let sheet = self.operands.first().filter(|_| self.compile.is_some()).map(Path::new);
+        new.map(|(_, path)| Path::new(path)).chain(options).chain(sheet).collect()
     }
 
     /// One that may be left out.
@@ -787,6 +854,9 @@ impl Args {
             demo: false,
             given: Vec::new(),
             from: None,
+            compile: None,
+            show: false,
+            first: None,
             record: None,
             teams: None,
             team: None,
@@ -812,6 +882,7 @@ impl Args {
         if args.team.is_some() && args.record.is_none() {
             return Err(Failure::usage("--team is for --record FILE, a record that has teams"));
         }
+        args.fit_a_sheet()?;
         Ok(args)
     }
 
@@ -858,7 +929,11 @@ impl Args {
             "--teams" => self.teams = Some(file()?),
             "--team" if self.team.is_some() => return Err(twice()),
             "--team" => self.team = Some(given("a team's name or number")?),
-            "--from" if self.from.is_some() => return Err(twice()),
+            "--from" if self.from.is_some() || self.first.is_some() => return Err(twice()),
+            "--from" if self.form.name == "sheet" => {
+                let given = given("the number of a line")?.into_vec();
+                self.first = Some(number(&given).map_err(Failure::usage)?);
+            }
             "--from" => self.from = Some(file()?),
             "--size" if self.size.is_some() => return Err(twice()),
             "--size" => {
@@ -871,15 +946,38 @@ impl Args {
             "--from-dir" if self.folder.is_some() => return Err(twice()),
             "--from-dir" => self.folder = Some(file()?),
             "--map" => self.map = Some(file()?),
+            "--compile" if self.compile.is_some() => return Err(twice()),
+            "--compile" => self.compile = Some(file()?),
+            "--show" => self.show = true,
             _ => self.out = Some(file()?),
         }
         Ok(())
     }
 
+    /// Where a sheet is not run, that its other options are left out.
+    fn fit_a_sheet(&self) -> Outcome<()> {
+        let instead = match (&self.compile, self.show) {
+            (None, false) => return Ok(()),
+            (Some(_), _) => "--compile",
+            (None, true) => "--show",
+        };
+        let given = [
+            ("--show", self.show && self.compile.is_some()),
+            ("--from", self.first.is_some()),
+            ("--record", self.record.is_some()),
+            ("--wait", self.wait),
+            ("--dry-run", self.dry && self.show),
+        ];
+        match given.into_iter().find(|(_, is_given)| *is_given) {
+            None => Ok(()),
+            Some((name, _)) => Err(Failure::usage(format!("{instead} does not go with {name}"))),
+        }
+    }
+
     /// Takes the image from the operands, and holds their number to the command's.
     fn place_operands(&mut self, bare: bool) -> Outcome<()> {
-        let left_out =
-            [self.takes_all(), self.demo, self.takes_from()].map(usize::from).iter().sum::<usize>();
+        let left_out = [self.takes_all(), self.is_without_image(), self.takes_from()];
+        let left_out = left_out.map(usize::from).iter().sum::<usize>();
         let most = self.form.operands.len() - left_out;
         let least = self.form.operands.iter().filter(|operand| operand.needed).count() - left_out;
         let got = self.operands.len();
@@ -888,7 +986,7 @@ impl Args {
         if got < least || got > most || (got == 0 && !bare) {
             return Err(Failure::usage(format!("usage: {}", self.form.usage())));
         }
-        if !self.demo && got > 0 {
+        if !self.is_without_image() && got > 0 {
             self.image = Some(PathBuf::from(self.operands.remove(0)));
         }
         if self.takes_all() {
@@ -922,6 +1020,7 @@ impl Form {
                 ("map", "IMAGE") => "IMAGE|--demo",
                 ("record", "IMAGE") => "IMAGE|FILE",
                 ("fill", "CLIP") => "CLIP|--from OTHER[:PATH]",
+                ("sheet", "IMAGE") => "IMAGE|--compile TEXT|--show",
                 ("new", "OUT") => "OUT --size SIZE --code GAME --from LIST|--from-dir DIR",
                 (_, name) => name,
             };
@@ -934,7 +1033,8 @@ impl Form {
         let told = |name: &str| match name {
             "--all" => self.name == "extract",
             "--size" => self.name == "new",
-            name => ["--demo", "--from", "--from-dir", "--code"].contains(&name),
+            "--from" => self.name != "sheet",
+            name => ["--demo", "--from-dir", "--code", "--compile", "--show"].contains(&name),
         };
         for flag in self.flags.iter().filter(|flag| !told(flag.name)) {
             out.push_str(&match flag.value {

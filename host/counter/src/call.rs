@@ -7,16 +7,19 @@ use crate::disc::{A_FOLDER, CLUSTER, TOO_LONG, no_path};
 use crate::failure::{Failure, Outcome};
 use crate::header::FST_MAXIMUM_AT;
 use crate::image::{Desk, Image};
-use crate::names::text;
+use crate::names::{short, text};
+use crate::sheet::{Kind, Line};
 use crate::text::{grouped, number};
 use crate::units::{parts, trouble};
-use counter_sys::{self as counter, MOST_PATH, Memory, Record};
+use counter_sys::{self as counter, Entry, MOST_PATH, Memory, Record};
 use std::fs::Metadata;
 use std::path::Path;
 
 /// What was asked, in the words of the command line.
 pub enum Wish {
     MakeFolders(Vec<u8>),
+    /// One folder, whose parent is there: a sheet makes no others.
+    MakeFolder(Vec<u8>),
     Add(Vec<u8>),
     Move(Vec<u8>, u32),
     /// To a place that is found.
@@ -48,10 +51,21 @@ impl Wish {
         })
     }
 
+    /// What a line of a sheet asks for.
+    pub fn of_line(Line { kind, path }: Line) -> Wish {
+        match kind {
+            Kind::MakeFolder => Wish::MakeFolder(path),
+            Kind::Add => Wish::Add(path),
+            Kind::Move(to) => Wish::Move(path, to),
+            Kind::Resize(to) => Wish::Resize(path, to),
+        }
+    }
+
     /// The path that it is about.
     pub fn path(&self) -> Option<&[u8]> {
         match self {
             Wish::MakeFolders(path)
+            | Wish::MakeFolder(path)
             | Wish::Add(path)
             | Wish::Move(path, _)
             | Wish::MoveAway(path)
@@ -71,9 +85,9 @@ impl Wish {
 
     /// How it is called where it is refused.
     pub fn words(&self) -> String {
-        let path = self.path().map(text).unwrap_or_default();
+        let path = self.path().map(called).unwrap_or_default();
         match self {
-            Wish::MakeFolders(_) => format!("mkdir {path}"),
+            Wish::MakeFolders(_) | Wish::MakeFolder(_) => format!("mkdir {path}"),
             Wish::Add(_) => format!("add {path}"),
             Wish::Move(_, to) => format!("move {path} to {to:#x}"),
             Wish::MoveAway(_) => format!("move {path} to a place of its size"),
@@ -87,7 +101,7 @@ impl Wish {
     /// What is wrong with the names that it would make, where they are refused with 12 or 13.
     fn trouble(&self, number: u32) -> Option<String> {
         match self {
-            Wish::Add(path) => match cut(path).1 {
+            Wish::Add(path) | Wish::MakeFolder(path) => match cut(path).1 {
                 name @ (b"." | b"..") => Some(format!("no entry is called {}", text(name))),
                 name => trouble(name, number),
             },
@@ -102,15 +116,34 @@ impl Wish {
 
 /// The same with paths looked up: one call of the library.
 #[derive(Clone, Copy)]
-pub enum Call<'a> {
+pub struct Call<'a> {
+    pub what: What<'a>,
+    /// Where it is a line of a sheet: then it is run as that.
+    line: Option<Alone<'a>>,
+}
+
+/// A line of a sheet.
+#[derive(Clone, Copy)]
+struct Alone<'a> {
+    /// The sheet that it makes by itself.
+    sheet: &'a [u8],
+    /// The number of the entry that it makes.
+    new: Option<u32>,
+}
+
+#[derive(Clone, Copy)]
+pub enum What<'a> {
     MakeFolders(&'a [u8]),
     Insert(u32, &'a [u8]),
+    InsertFolder(u32, &'a [u8]),
     Move(u32, u32),
     Resize(u32, u32),
     /// With zeros in the place of the clip, until it is written.
     Fill(u32, &'a [u8]),
     Rewrite,
     Maximum(u32),
+    /// A line whose path leads nowhere: the library is left to say so.
+    Nothing,
 }
 
 impl<'a> Call<'a> {
@@ -120,39 +153,75 @@ impl<'a> Call<'a> {
                 .map(|entry| entry.number())
                 .map_err(|refused| no_path(image, desk, refused, path))
         };
-        Ok(match wish {
-            Wish::MakeFolders(path) => Call::MakeFolders(path),
+        let what = match wish {
+            Wish::MakeFolders(path) => What::MakeFolders(path),
+            Wish::MakeFolder(path) => {
+                let (folder, name) = cut(path);
+                What::InsertFolder(find(folder)?, name)
+            }
             Wish::Add(path) => {
                 let (folder, name) = cut(path);
-                Call::Insert(find(folder)?, name)
+                What::Insert(find(folder)?, name)
             }
-            Wish::Move(path, to) => Call::Move(find(path)?, *to),
+            Wish::Move(path, to) => What::Move(find(path)?, *to),
             Wish::MoveAway(path) => {
                 let at = find(path)?;
                 let place = place_for(at, image, desk).map_err(|number| refused(wish, number))?;
-                Call::Move(at, place)
+                What::Move(at, place)
             }
-            Wish::Resize(path, to) => Call::Resize(find(path)?, *to),
-            Wish::Fill(path, clip) => Call::Fill(find(path)?, clip.zeros()),
-            Wish::Rewrite => Call::Rewrite,
-            Wish::Maximum(to) => Call::Maximum(*to),
-        })
+            Wish::Resize(path, to) => What::Resize(find(path)?, *to),
+            Wish::Fill(path, clip) => What::Fill(find(path)?, clip.zeros()),
+            Wish::Rewrite => What::Rewrite,
+            Wish::Maximum(to) => What::Maximum(*to),
+        };
+        Ok(Call { what, line: None })
+    }
+
+    /// The same of a line of a sheet, of which `alone` is the sheet that it makes by itself.
+    pub fn of_line(wish: &'a Wish, alone: &'a [u8], image: &Image, desk: &mut Desk) -> Call<'a> {
+        let mut find = |path: &[u8]| counter::lookup(image.bytes(), &mut desk.lend(), 0, path).ok();
+        let mut new = None;
+        let what = match wish {
+            Wish::MakeFolder(path) | Wish::Add(path) => {
+                let (folder, name) = cut(path);
+                find(folder).map(|folder| {
+                    if let Entry::Directory { next, .. } = folder {
+                        // Behind all that the folder holds.
+                        new = Some(next);
+                    }
+                    match wish {
+                        Wish::Add(_) => What::Insert(folder.number(), name),
+                        _ => What::InsertFolder(folder.number(), name),
+                    }
+                })
+            }
+            Wish::Move(path, to) => find(path).map(|found| What::Move(found.number(), *to)),
+            Wish::Resize(path, to) => find(path).map(|found| What::Resize(found.number(), *to)),
+            _ => None,
+        };
+        Call { what: what.unwrap_or(What::Nothing), line: Some(Alone { sheet: alone, new }) }
+    }
+
+    /// Whether it is a line of a sheet.
+    pub fn is_line(&self) -> bool {
+        self.line.is_some()
     }
 
     /// The file whose place or bytes it changes, where it is about one.
     pub fn file(&self) -> Option<u32> {
-        match *self {
-            Call::Move(at, _) | Call::Resize(at, _) | Call::Fill(at, _) => Some(at),
+        match self.what {
+            What::Move(at, _) | What::Resize(at, _) | What::Fill(at, _) => Some(at),
             _ => None,
         }
     }
 
     /// The same with the clip itself.
     pub fn with_clip(self, clip: &'a [u8]) -> Call<'a> {
-        match self {
-            Call::Fill(at, _) => Call::Fill(at, clip),
+        let what = match self.what {
+            What::Fill(at, _) => What::Fill(at, clip),
             other => other,
-        }
+        };
+        Call { what, ..self }
     }
 
     /// The entry's number in the new table, where the call gives one. The record comes back.
@@ -164,28 +233,45 @@ impl<'a> Call<'a> {
         team: u32,
     ) -> Result<Option<u32>, u32> {
         let memory = &mut memory;
-        match *self {
-            Call::MakeFolders(path) => {
+        if let Some(Alone { sheet, new }) = self.line {
+            let run = counter::sheet(image, memory, record, team, sheet);
+            return run.map(|()| new).map_err(|stopped| stopped.number);
+        }
+        match self.what {
+            What::MakeFolders(path) => {
                 counter::make_directories(image, memory, record, team, 0, path).map(Some)
             }
-            Call::Insert(parent, name) => {
+            What::Insert(parent, name) => {
                 counter::insert_file(image, memory, record, team, parent, name).map(Some)
             }
-            Call::Move(at, to) => {
+            What::InsertFolder(parent, name) => {
+                counter::insert_directory(image, memory, record, team, parent, name).map(Some)
+            }
+            What::Move(at, to) => {
                 counter::move_file(image, memory, record, team, at, to).map(|()| None)
             }
-            Call::Resize(at, to) => {
+            What::Resize(at, to) => {
                 counter::resize_file(image, memory, record, team, at, to).map(|()| None)
             }
-            Call::Fill(at, clip) => {
+            What::Fill(at, clip) => {
                 counter::fill_file(image, memory, record, team, at, clip).map(|()| None)
             }
-            Call::Rewrite => counter::rewrite(image, memory, record, team).map(|()| None),
-            Call::Maximum(to) => {
+            What::Rewrite => counter::rewrite(image, memory, record, team).map(|()| None),
+            What::Maximum(to) => {
                 image[FST_MAXIMUM_AT..][..4].copy_from_slice(&to.to_be_bytes());
                 Ok(None)
             }
+            What::Nothing => Ok(None),
         }
+    }
+}
+
+/// A path in words. A sheet's can be empty, and of any length.
+fn called(path: &[u8]) -> String {
+    match path.len() {
+        0 => "\"\"".into(),
+        1..=MOST_PATH => text(path),
+        _ => short(path),
     }
 }
 
@@ -217,6 +303,11 @@ pub fn refused(wish: &Wish, number: u32) -> Failure {
             None => failure,
         },
         (16, _) => failure.because(A_FOLDER),
+        // Of a line alone: a command looks the path up itself.
+        (18, Wish::MakeFolder(path) | Wish::Add(path)) => failure.because(format!(
+            "there is no folder {}; a line makes one folder alone",
+            called(cut(path).0)
+        )),
         (20, Wish::Move(..)) => failure.because("the new place overlaps the old one"),
         (21, Wish::Move(..)) => failure
             .because("the new place is not free, or the table has no room; see `counter free`"),

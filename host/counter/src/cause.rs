@@ -2,7 +2,7 @@
 //! library's `Display` (crates/refusal), and counter.h has them for C; tests/c.rs holds the three together.
 
 /// The cause with number n is the n-th.
-pub const CAUSES: [&str; 29] = [
+pub const CAUSES: [&str; 30] = [
     "header field past the image",
     "Wii magic",
     "not GameCube magic",
@@ -32,6 +32,7 @@ pub const CAUSES: [&str; 29] = [
     "taken bytes above the team's limit",
     "free bytes below the other teams' shares",
     "span to be zeroed not wholly free",
+    "no edit sheet: its count, bounds, or a line's kind, fields or path",
 ];
 
 /// None where no call answers the number.

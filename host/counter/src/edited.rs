@@ -12,20 +12,10 @@ use std::collections::{HashMap, HashSet};
 
 /// `trial` is the edit as it was tried.
 pub fn json(args: &Args, wish: &Wish, call: &Call, before: &Disc, trial: &Trial) -> Json {
-    let (after, nothing) = (&trial.after, trial.change.is_nothing());
+    let nothing = trial.change.is_nothing();
     if let Some(maximum) = &trial.maximum {
         return stated(args, trial, maximum);
     }
-    // A fill writes other bytes where the place may be the same.
-    let filled = call.file().filter(|_| trial.change.clip);
-    let table = Json::Object(vec![
-        ("before", before.opened.fst_size.into()),
-        ("after", after.opened.fst_size.into()),
-    ]);
-    let notes = notes(call, before, trial, |name| names::text(name).into_bytes());
-    let notes = notes.into_iter().map(|note| String::from_utf8_lossy(&note).into_owned().into());
-    let renumbered = renumbered(call, before, trial)
-        .map(|(first, last)| Json::Object(vec![("first", first.into()), ("last", last.into())]));
     let [path, path_bytes] = match wish.path() {
         Some(path) => json::path(path),
         None => [("path", Json::Null), ("path_bytes", Json::Null)],
@@ -37,18 +27,36 @@ pub fn json(args: &Args, wish: &Wish, call: &Call, before: &Disc, trial: &Trial)
         path_bytes,
         ("dry_run", args.dry.into()),
         ("written", (!args.dry && !nothing).into()),
-        ("table", table),
-        ("entries", Json::List(entries(before, after, filled))),
-        ("renumbered", renumbered.into()),
-        ("lost", lost(wish, call, before, trial).into()),
-        ("notes", Json::List(notes.collect())),
-        ("record", trial.turn.json(after.opened.disc_end)),
     ];
+    fields.extend(answer(wish, call, before, trial));
+    fields.push(("record", trial.turn.json(trial.after.opened.disc_end)));
     if let Wish::Fill(_, clip) = wish {
         let clip = vec![("name", clip.name.as_str().into()), ("size", clip.len.into())];
         fields.push(("clip", Json::Object(clip)));
     }
     Json::Object(fields)
+}
+
+/// What the edit did, but for what it leaves.
+pub fn answer(wish: &Wish, call: &Call, before: &Disc, trial: &Trial) -> Vec<(&'static str, Json)> {
+    let after = &trial.after;
+    // A fill writes other bytes where the place may be the same.
+    let filled = call.file().filter(|_| trial.change.clip);
+    let table = Json::Object(vec![
+        ("before", before.opened.fst_size.into()),
+        ("after", after.opened.fst_size.into()),
+    ]);
+    let notes = notes(call, before, trial, |name| names::text(name).into_bytes());
+    let notes = notes.into_iter().map(|note| String::from_utf8_lossy(&note).into_owned().into());
+    let renumbered = renumbered(call, before, trial)
+        .map(|(first, last)| Json::Object(vec![("first", first.into()), ("last", last.into())]));
+    vec![
+        ("table", table),
+        ("entries", Json::List(entries(before, after, filled))),
+        ("renumbered", renumbered.into()),
+        ("lost", lost(wish, call, before, trial).into()),
+        ("notes", Json::List(notes.collect())),
+    ]
 }
 
 /// Another maximum, and the table held against it.

@@ -2,6 +2,7 @@
 //! status.
 
 use crate::cause::cause;
+use crate::json::Json;
 use crate::names;
 use std::fmt;
 use std::io;
@@ -35,6 +36,8 @@ pub enum Failure {
     Error { status: u8, text: String },
     /// A signal came at a place where the program could stop.
     Signal { number: i32, text: String },
+    /// A sheet stopped at a line: why, what became of the others, and that in the fields of an answer.
+    Stopped { why: Box<Failure>, then: String, fields: Vec<(&'static str, Json)> },
     /// Whoever read the output went away.
     Pipe,
 }
@@ -97,6 +100,24 @@ impl Failure {
         self
     }
 
+    /// The same at a line of a sheet.
+    pub fn at(self, line: &str) -> Failure {
+        let placed = |words: String| format!("{line}: {words}");
+        match self {
+            Failure::Refused { number, what, detail, measures } => {
+                Failure::Refused { number, what: placed(what), detail, measures }
+            }
+            Failure::Error { status, text } => Failure::Error { status, text: placed(text) },
+            Failure::Signal { number, text } => Failure::Signal { number, text: placed(text) },
+            other => other,
+        }
+    }
+
+    /// The same with what becomes of a sheet.
+    pub fn then(self, then: String, fields: Vec<(&'static str, Json)>) -> Failure {
+        Failure::Stopped { why: Box::new(self), then, fields }
+    }
+
     pub fn error(status: u8, text: impl Into<String>) -> Failure {
         Failure::Error { status, text: text.into() }
     }
@@ -122,7 +143,18 @@ impl Failure {
             Failure::Refused { number, .. } => *number as u8,
             Failure::Error { status, .. } => *status,
             Failure::Signal { number, .. } => 128 + *number as u8,
+            Failure::Stopped { why, .. } => why.status(),
             Failure::Pipe => 128 + SIGPIPE,
+        }
+    }
+
+    /// The signal by which the program ends.
+    pub fn signal(&self) -> Option<i32> {
+        match self {
+            Failure::Signal { number, .. } => Some(*number),
+            Failure::Stopped { why, .. } => why.signal(),
+            Failure::Pipe => Some(SIGPIPE.into()),
+            _ => None,
         }
     }
 }
@@ -138,6 +170,7 @@ impl fmt::Display for Failure {
                 }
             }
             Failure::Error { text, .. } | Failure::Signal { text, .. } => f.write_str(text),
+            Failure::Stopped { why, then, .. } => write!(f, "{why}{then}"),
             Failure::Pipe => f.write_str("standard output was closed"),
         }
     }

@@ -253,9 +253,27 @@ const FIELDS: &[(&str, &str)] = &[
          fst_rewritten_above notes[...]",
     ),
     (
+        "sheet",
+        "status edit sheet lines from ran line dry_run written finished edits[line edit path path_bytes written \
+         table{before after} entries[number path path_bytes kind before{offset size} after{offset size}] \
+         renumbered{first last} lost notes[...]] record{used free largest_free edits team{TEAM}}; lines: how many the \
+         sheet has; from: the first that was to run; ran: how many of them ran; line: the one at which the sheet \
+         stopped, or null; written: whether the image was; finished: an edit that was cut before and is finished now, \
+         or null; edits: of the lines that ran, in a dry run of those that would, as of an edit; record: as they leave \
+         it. A refusal at a line has all of this too",
+    ),
+    ("sheet", "with --compile: status edit out dry_run written lines bytes"),
+    (
+        "sheet",
+        "with --show: status edit sheet lines edits[line edit path path_bytes offset size]; offset: of a move, else \
+         null; size: of a resize, else null",
+    ),
+    (
         "recover",
-        "status edit finished written out record{used free largest_free edits team{TEAM}}; finished: the edit that was \
-         cut, or null; out: the FILE of its --record, where it was written, or null; record: as it is after that edit, or null (maximum has none)",
+        "status edit finished written out record{used free largest_free edits team{TEAM}} sheet{file line lines from}; \
+         finished: the edit that was \
+         cut, or null; out: the FILE of its --record, where it was written, or null; record: as it is after that edit, or null (maximum has none); \
+         sheet: the line of a sheet that it was, and with which the sheet goes on (null if it was the last), or null",
     ),
     (
         "new",
@@ -343,23 +361,23 @@ Names
   - An image has its names in Shift-JIS, as Windows has it (CP932): bytes 0x20 to 0x7E and 0xA1 to
     0xDF, and pairs of a lead byte (0x81 to 0x9F, 0xE0 to 0xFC) with a trail byte (0x40 to 0x7E,
     0x80 to 0xFC). They are shown and taken in UTF-8. A trail byte 0x5C is no \\ and cuts no path.
-  - What has no character of its own is shown by its bytes, \\x81\\xad, and is taken so: in a PATH
-    and in a LIST \\xHH is a byte from 0x80 on, or the trail byte of a lead byte that stands before
-    it. A letter or a sign right behind a lead byte that is given so is its trail byte where it can
-    be, a \\ too; another character there is an error. Any other \\ cuts a path like /. So where a
+  - What has no character of its own is shown by its bytes, \\x81\\xad, and is taken so: in a PATH,
+    a LIST and a TEXT \\xHH is a byte from 0x80 on, or the trail byte of a lead byte that stands
+    before it. A letter or a sign right behind a lead byte that is given so is its trail byte where it
+    can be, a \\ too; another character there is an error. Any other \\ cuts a path like /. So where a
     folder holds a name like xfade, write text/xfade: text\\xfade has a byte 0xfa.
   - Some pairs share a character; it then means one of them, and the others are shown by their bytes,
     so that no two names have the same text.
-  - A character that Shift-JIS does not have is an error (64, in a LIST 65), and so are the yen sign
-    and the overline, of which it would make \\ and ~. Where it has a near one, as the full-width
-    tilde for the wave dash, that is taken.
+  - A character that Shift-JIS does not have is an error (64, in a LIST or a TEXT 65), and so are the
+    yen sign and the overline, of which it would make \\ and ~. Where it has a near one, as the
+    full-width tilde for the wave dash, that is taken.
   - Where the locale (LC_ALL, LC_CTYPE, LANG) names another code than UTF-8, standard output and
     standard error have every byte from 0x80 on as \\xHH. A PATH is then taken in \\xHH, and where the
-    locale names Shift-JIS also in bytes. Files are UTF-8 in any case: LIST, manifest, picture, page,
-    and the names of those that are extracted. Where the system's iconv has no CP932, there are no
-    characters, only \\xHH.
-  - With --bytes names are the image's bytes, for scripts: in a PATH and a LIST, on standard output,
-    in a manifest and in the names of extracted files. Standard error, JSON, pictures and pages
+    locale names Shift-JIS also in bytes. Files are UTF-8 in any case: LIST, TEXT, manifest, picture,
+    page, and the names of those that are extracted. Where the system's iconv has no CP932, there are
+    no characters, only \\xHH.
+  - With --bytes names are the image's bytes, for scripts: in a PATH, a LIST and a TEXT, on standard
+    output, in a manifest and in the names of extracted files. Standard error, JSON, pictures and pages
     keep text. A manifest says by itself which of both it has.
   - `counter list` always has the bytes; `counter tree --paths` has every path as PATH takes it.
   - PATH goes by case, and many games do not: of two names in a folder that differ in case only they
@@ -416,6 +434,9 @@ Safety
     cannot be written then, the journal stays (78), and what to do is told. `counter help record` says
     more.
   - Not promised: a disk that says it has synced what it has not; programs that ignore the lock.
+  - A sheet is as many edits as it has lines, and what is said of an edit holds of each. Ctrl-C and the
+    other signals end it between two lines at the latest. Its journal stays from one line to the next,
+    so that one is there wherever the sheet is cut, and tells at which line that was.
   - So keep a copy of an image that cannot be had again, on another disk, try with --dry-run, and
     let `counter compare` tell what changed.
 ";
@@ -432,7 +453,8 @@ fn statuses() -> String {
         "  64  wrong usage; a PATH that is no UTF-8, or has a character that Shift-JIS does not have;\n\
          \x20     --record: a FILE that is the image, a clip, a journal, a folder or a special file;\n\
          \x20     --team: left out with a record that has teams, given with another, or no team of it;\n\
-         \x20     fill: a clip that is the image, a journal or a clip that is kept\n\
+         \x20     fill: a clip that is the image, a journal or a clip that is kept;\n\
+         \x20     sheet: --from with no such line; left out where a line of the sheet was cut and is finished now\n\
          \x20 65  compare, report: an image too short for a header, a LIST or a manifest that is wrong;\n\
          \x20     a command that shows every path: more than 64 MiB of them;\n\
          \x20     --record: a FILE that is torn or no record, or whose used bytes or largest free region\n\
@@ -441,9 +463,11 @@ fn statuses() -> String {
          \x20     fill: a clip of no bytes without --empty, or of other than --size bytes;\n\
          \x20     new: a LIST that is wrong; OUT in DIR; in DIR a name that Shift-JIS does not have, a\n\
          \x20     counter-new.N, a file of 4 GiB or more, one whose length changes meanwhile, or more than\n\
-         \x20     100,000 files\n\
+         \x20     100,000 files;\n\
+         \x20     sheet: a TEXT that is wrong, with line and column; a sheet or a text of more than 16 MiB\n\
          \x20 66  no such image or clip, or a folder in its place, or a special file in the image's;\n\
-         \x20     --given, --from, --teams LIST: no such LIST, or a folder in its place;\n\
+         \x20     --given, --from, --teams LIST: no such LIST, or a folder in its place; sheet: no such FILE or\n\
+         \x20     TEXT, or a folder in its place;\n\
          \x20     new: no such DIR, or a file in its place, or a link or a special file in it\n\
          \x20 70  the library answered what it never should\n\
          \x20 73  an output, a journal, a clip that is kept or a record cannot be created, or is there already;\n\
@@ -453,6 +477,7 @@ fn statuses() -> String {
          \x20 77  not allowed: a read-only file or disk, or no permission\n\
          \x20     64 to 75 and 77: header, table and files are as they were; with 74 free space may hold\n\
          \x20     part of a copy; `new` leaves nothing\n\
+         \x20     sheet: where a line is told, all this is of that line; those before it are done and stay\n\
          \x20 76  the edit, or the new image, is written and synced, but its answer could not be printed\n\
          \x20 78  an edit was cut: the image may hold a part of it, and its journal is there;\n\
          \x20     `counter recover IMAGE` finishes the edit. Or only its record is not written yet: the\n\

@@ -98,10 +98,11 @@ impl Image {
         Ok(Image { name, path: Some(place), bytes: Bytes::Mapped { file, mapping } })
     }
 
-    /// The same file to try an edit on: what is written stays in memory. The bytes of `spans` are none
-    /// of the file's, so that copying them takes no memory.
-    pub fn trial(&self, spans: &[Range<u64>]) -> Outcome<Image> {
-        let Bytes::Mapped { file, .. } = &self.bytes else {
+    /// The same file to try an edit on: what is written stays in memory. The bytes of `spans` are none of the
+    /// file's, so that copying them takes no memory. Of an image that is one for trials itself, `tried` is
+    /// taken along, and nothing else that was written to it.
+    pub fn trial(&self, spans: &[Range<u64>], tried: &[Range<usize>]) -> Outcome<Image> {
+        let Bytes::Mapped { file, mapping: from } = &self.bytes else {
             let bytes = Bytes::BuiltIn(self.bytes().to_vec());
             return Ok(Image { name: self.name.clone(), path: None, bytes });
         };
@@ -112,6 +113,11 @@ impl Image {
         let spans: Vec<_> =
             spans.iter().map(|span| span.start as usize..span.end as usize).collect();
         mapping.stand_in(&spans).map_err(failed)?;
+        if from.is_private() {
+            for span in tried {
+                mapping.bytes_mut()[span.clone()].copy_from_slice(&from.bytes()[span.clone()]);
+            }
+        }
         let bytes = Bytes::Mapped { file, mapping };
         Ok(Image { name: self.name.clone(), path: self.path.clone(), bytes })
     }

@@ -8,6 +8,7 @@
 
 use crate::change::{Change, HEADER};
 use crate::disk::{self, On};
+use crate::names;
 use crate::sum;
 use crate::text::one_line;
 use counter_sys::MOST_TABLE;
@@ -20,8 +21,8 @@ use std::os::unix::fs::MetadataExt;
 use std::path::{Path, PathBuf};
 
 const MAGIC: &[u8; 16] = b"counter journal\n";
-/// The first had no clips, the second no record, the third no maximum.
-const VERSION: u64 = 4;
+/// The first had no clips, the second no record, the third no maximum, the fourth no sheet.
+const VERSION: u64 = 5;
 const COPIED: &[u8; 8] = b"copied!\n";
 
 /// No journal is longer: two tables of the largest size, a header, and a few numbers.
@@ -53,6 +54,21 @@ pub struct Totals {
     pub new: Vec<u8>,
 }
 
+/// The line of a sheet whose edit it is, of how many, and the sheet's file.
+#[derive(Debug, Clone, PartialEq, Eq)]
+pub struct Line {
+    pub number: u32,
+    pub of: u32,
+    pub sheet: PathBuf,
+}
+
+impl Line {
+    /// The line in words, before those of its edit.
+    pub fn words(&self) -> String {
+        format!("{}, line {} of {}", names::file(&self.sheet), self.number, self.of)
+    }
+}
+
 /// What the edit does, and to which file.
 #[derive(Debug, Clone, PartialEq, Eq)]
 pub struct Plan {
@@ -63,6 +79,18 @@ pub struct Plan {
     /// The sum of the clip; 0 without one.
     pub clip_sum: u64,
     pub totals: Option<Totals>,
+    pub line: Option<Line>,
+}
+
+impl Plan {
+    /// The edit in words, and where it belongs to.
+    pub fn words(&self) -> String {
+        let words = &self.change.words;
+        match &self.line {
+            Some(line) => format!("{}: {words}", line.words()),
+            None => words.clone(),
+        }
+    }
 }
 
 pub struct Journal {
@@ -128,7 +156,7 @@ pub fn has_no_place(image: &Path) -> bool {
 /// The edit whose journal it is, in words.
 pub fn words(image: &Path) -> Option<String> {
     let bytes = read(&beside(image)).ok()??.ok()?;
-    decode(&bytes).map(|(plan, _)| plan.change.words)
+    decode(&bytes).map(|(plan, _)| plan.words())
 }
 
 /// What the disk tells of the journal's name. An error says that nobody knows whether there is one.
@@ -166,8 +194,8 @@ fn clip_of(image: &Path) -> Option<File> {
 }
 
 impl Journal {
-    /// Writes the journal of an edit that is about to begin; its clip is there. On an error there is
-    /// neither.
+    /// Writes the journal of an edit that is about to begin; its clip is there. It takes the place of the one
+    /// that is there, whose edit is done: that is a sheet's line before. On an error there is none.
     pub fn start(image: &Path, plan: Plan, clip: Option<File>) -> io::Result<Journal> {
         let path = beside(image);
         let early = early_beside(image);
@@ -254,7 +282,7 @@ fn begin(early: &Path, path: &Path, bytes: &[u8]) -> io::Result<(File, u64)> {
 // Its form --------------------------------------------------------------------------------
 
 fn encode(plan: &Plan) -> Vec<u8> {
-    let Plan { owner, change, hole, clip_sum, totals } = plan;
+    let Plan { owner, change, hole, clip_sum, totals, line } = plan;
     let mut out = MAGIC.to_vec();
     let numbers = [
         VERSION,
@@ -280,7 +308,11 @@ fn encode(plan: &Plan) -> Vec<u8> {
     let maximum = change
         .maximum
         .map_or(Vec::new(), |(old, new)| [old.to_le_bytes(), new.to_le_bytes()].concat());
-    for part in [&owner.header, words, &change.old, &change.new, file, old, new, &maximum] {
+    let line = line.as_ref().map_or(Vec::new(), |line| {
+        let numbers = [line.number.to_le_bytes(), line.of.to_le_bytes()].concat();
+        [&numbers[..], line.sheet.as_os_str().as_bytes()].concat()
+    });
+    for part in [&owner.header, words, &change.old, &change.new, file, old, new, &maximum, &line] {
         out.extend((part.len() as u64).to_le_bytes());
         out.extend(part);
     }
@@ -341,6 +373,7 @@ fn decode(bytes: &[u8]) -> Option<(Plan, usize)> {
     let (old, new) = (reader.part()?.to_vec(), reader.part()?.to_vec());
     let totals = if version < 3 { None } else { decode_totals(&mut reader)? };
     let maximum = if version < 4 { None } else { decode_maximum(reader.part()?)? };
+    let line = if version < 5 { None } else { decode_line(reader.part()?)? };
     let sum = sum::of(&bytes[..reader.at]);
     if reader.number()? != sum {
         return None;
@@ -361,7 +394,7 @@ fn decode(bytes: &[u8]) -> Option<(Plan, usize)> {
         maximum,
     };
     let owner = Owner { inode, len, header };
-    let plan = Plan { owner, change, hole, clip_sum, totals };
+    let plan = Plan { owner, change, hole, clip_sum, totals, line };
     is_sound(&plan).then_some((plan, reader.at))
 }
 
@@ -379,6 +412,16 @@ fn decode_maximum(part: &[u8]) -> Option<Option<(u32, u32)>> {
         8 => Some(word(0).zip(word(4))),
         _ => None,
     }
+}
+
+fn decode_line(part: &[u8]) -> Option<Option<Line>> {
+    if part.is_empty() {
+        return Some(None);
+    }
+    let word = |at: usize| Some(u32::from_le_bytes(part.get(at..at + 4)?.try_into().ok()?));
+    let (number, of) = (word(0)?, word(4)?);
+    let sheet = OsString::from_vec(part[8..].to_vec()).into();
+    (1..=of).contains(&number).then_some(Some(Line { number, of, sheet }))
 }
 
 /// What the sum says of a plan is that it is whole; this, that it can be acted on.

@@ -4,6 +4,7 @@ use crate::names;
 use crate::sha256::hex;
 use std::fmt::Write;
 
+#[derive(Debug)]
 pub enum Json {
     Null,
     Flag(bool),

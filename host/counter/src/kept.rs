@@ -74,7 +74,7 @@ pub struct Kept {
     pub file: PathBuf,
     /// None if there is no file; no bytes if it cannot be a record.
     pub bytes: Option<Vec<u8>>,
-    _lock: Option<File>,
+    lock: Option<File>,
 }
 
 impl Kept {
@@ -83,13 +83,20 @@ impl Kept {
         let failed = |e: io::Error| cannot_open(file, &e);
         let held = if locked { hold(file)? } else { open(file, false).map_err(failed)? };
         let bytes = held.as_ref().map(contents).transpose().map_err(failed)?;
-        Ok(Kept { file: file.to_path_buf(), bytes, _lock: held })
+        Ok(Kept { file: file.to_path_buf(), bytes, lock: held })
     }
 
     /// What an edit does to it.
     pub fn totals(&self, new: String) -> Totals {
         let old = self.bytes.clone().unwrap_or_default();
         Totals { file: self.file.clone(), old, new: new.into_bytes() }
+    }
+
+    /// Puts the new text there. Nobody else gets at it, as long as this is in use.
+    pub fn put(&mut self, totals: &Totals) -> Outcome<()> {
+        self.lock = Some(put(totals)?);
+        self.bytes = Some(totals.new.clone());
+        Ok(())
     }
 }
 
@@ -128,11 +135,13 @@ fn contents(mut file: &File) -> io::Result<Vec<u8>> {
 // How it is replaced ----------------------------------------------------------------------
 
 /// Puts the new text in the place of the old one, which must still be there, and waits until it is on the
-/// disk.
-pub fn put(totals: &Totals) -> Outcome<()> {
+/// disk. The file that has it is locked.
+fn put(totals: &Totals) -> Outcome<File> {
     let failed = |e: io::Error| not_written(&totals.file, &e);
     let was = unchanged(totals).map_err(failed)?;
     let (early, new) = create_beside(&totals.file).map_err(failed)?;
+    // Nobody else knows the file yet. Where the disk has no locks, the old one has none either.
+    let _ = new.try_lock();
     let named = write(&new, was.as_ref(), &totals.new).and_then(|()| match was {
         Some(_) => disk::rename(On::Record, &early, &totals.file),
         None => disk::rename_new(On::Record, &early, &totals.file),
@@ -140,7 +149,7 @@ pub fn put(totals: &Totals) -> Outcome<()> {
     if named.is_err() {
         let _ = disk::remove(On::Record, &early);
     }
-    named.and_then(|()| disk::sync_folder(&totals.file)).map_err(failed)
+    named.and_then(|()| disk::sync_folder(&totals.file)).map(|()| new).map_err(failed)
 }
 
 /// The same for an edit that was cut: the new text may be there already.
@@ -149,7 +158,7 @@ pub fn put_again(totals: &Totals) -> Outcome<()> {
     let kept = Kept::open(&totals.file, true)?;
     match kept.bytes.as_ref() == Some(&totals.new) {
         true => disk::sync_folder(&totals.file).map_err(|e| not_written(&totals.file, &e)),
-        false => put(totals),
+        false => put(totals).map(|_| ()),
     }
 }
 

@@ -8,7 +8,7 @@ use std::io::Read;
 use std::path::Path;
 
 /// Most bytes of a list: those of 16,384 paths, the longest that there are.
-const LONGEST: u64 = 16 << 20;
+pub const LONGEST: u64 = 16 << 20;
 pub const MOST_LINES: usize = 100_000;
 
 /// Each line that is not empty, with its number, from 1 on. `a_folder` is what is said of a folder.
@@ -46,4 +46,12 @@ pub fn read(list: &Path, a_folder: &str) -> Outcome<Vec<(usize, Vec<u8>)>> {
 /// What is wrong with a line.
 pub fn wrong(list: &Path, line: usize, why: &str) -> Failure {
     Failure::error(DATA, format!("{}, line {line}: {why}", names::file(list)))
+}
+
+/// The same from a byte of the line on. A column is a character, with --bytes a byte.
+pub fn wrong_from(list: &Path, (number, line): (usize, &[u8]), at: usize, why: &str) -> Failure {
+    let is_first = |byte: &&u8| names::are_raw() || !matches!(byte, 0x80..=0xBF);
+    let column = line[..at].iter().filter(is_first).count() + 1;
+    let text = format!("{}, line {number}, column {column}: {why}", names::file(list));
+    Failure::error(DATA, text)
 }

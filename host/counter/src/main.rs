@@ -12,6 +12,7 @@ mod area;
 mod args;
 mod banner;
 mod call;
+mod carry;
 mod cause;
 mod change;
 mod clip;
@@ -49,8 +50,11 @@ mod recover;
 mod redo;
 mod report;
 mod room;
+mod run;
 mod save;
+mod script;
 mod sha256;
+mod sheet;
 mod signals;
 mod stored;
 mod sum;
@@ -131,7 +135,7 @@ fn helped(subject: Option<OsString>) -> Outcome<u8> {
 
 /// Carries the command out; the answer is the exit status.
 fn run(args: Args) -> Outcome<u8> {
-    if args.image.is_none() {
+    if args.shows_built_in() {
         eprintln!("counter: no IMAGE given: this is the {}", image::BUILT_IN);
     }
     if args.wait {
@@ -163,6 +167,7 @@ fn run(args: Args) -> Outcome<u8> {
         "report" => return report::report(&args),
         "recover" => recover::recover(&args)?,
         "new" => make::new(&args)?,
+        "sheet" => run::sheet(&args)?,
         _ => edit::edit(&args)?,
     }
     Ok(0)
@@ -177,20 +182,22 @@ fn finish(outcome: Outcome<u8>, json: bool) -> i32 {
     if let Failure::Pipe = failure {
         return os::end_by(os::SIGPIPE);
     }
+    let (text, status, signal) = (failure.to_string(), failure.status(), failure.signal());
     if json {
-        let _ = say(told(&failure).document().as_bytes());
+        let _ = say(told(failure).document().as_bytes());
     }
-    eprintln!("counter: {failure}");
-    match failure {
-        Failure::Signal { number, .. } => os::end_by(number),
-        other => other.status().into(),
-    }
+    eprintln!("counter: {text}");
+    signal.map_or(status.into(), os::end_by)
 }
 
 /// A failure as JSON.
-fn told(failure: &Failure) -> Json {
+fn told(failure: Failure) -> Json {
     let mut fields = vec![("status", Json::from(u32::from(failure.status())))];
-    match failure {
+    let (failure, more) = match failure {
+        Failure::Stopped { why, fields, .. } => (*why, fields),
+        other => (other, Vec::new()),
+    };
+    match &failure {
         Failure::Refused { number, what, detail, measures } => {
             fields.push(("refused", (*number).into()));
             fields.push(("cause", cause(*number).into()));
@@ -200,6 +207,7 @@ fn told(failure: &Failure) -> Json {
         }
         other => fields.push(("error", other.to_string().into())),
     }
+    fields.extend(more);
     Json::Object(fields)
 }
 

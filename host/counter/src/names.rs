@@ -167,6 +167,12 @@ fn escape(out: &mut String, unit: &[u8]) {
     }
 }
 
+fn escaped_bytes(unit: &[u8]) -> Vec<u8> {
+    let mut out = String::new();
+    escape(&mut out, unit);
+    out.into_bytes()
+}
+
 fn spelt(bytes: &[u8], letter: impl Fn(&[u8]) -> Option<char>) -> String {
     let mut out = String::new();
     for unit in units(bytes) {
@@ -282,6 +288,23 @@ pub fn written(bytes: &[u8]) -> Vec<u8> {
     if are_raw() { bytes.to_vec() } else { text(bytes).into_bytes() }
 }
 
+/// A path in quotes: whatever might be taken for something else is escaped, so that it can hold any bytes but
+/// zero.
+pub fn quoted(path: &[u8]) -> Vec<u8> {
+    let mut out = b"\"".to_vec();
+    for unit in units(path) {
+        match unit {
+            [byte @ (b'"' | b'\\')] => out.extend([b'\\', *byte]),
+            [b' '..=b'~'] => out.extend(unit),
+            _ if are_raw() && is_unit(unit) => out.extend(unit),
+            _ if are_raw() => out.extend(escaped_bytes(unit)),
+            _ => out.extend(shown(unit)),
+        }
+    }
+    out.push(b'"');
+    out
+}
+
 /// Words for the terminal; on one without UTF-8 characters are escaped like the bytes that they stand for.
 pub fn for_terminal(words: &str) -> String {
     if terminal_has_utf_8() || words.is_ascii() {
@@ -337,6 +360,55 @@ pub fn read(text: &[u8]) -> Result<Vec<u8>, String> {
     if are_raw() { Ok(text.to_vec()) } else { from_text(text) }
 }
 
+/// The bytes of a path in quotes that the text begins with, and where the text goes on; or where something is
+/// wrong with it, and what. In quotes `\xHH` is any byte, and `\\` and `\"` stand for themselves.
+pub fn unquoted(text: &[u8]) -> Result<(Vec<u8>, usize), (usize, String)> {
+    const KNOWN: &str = "in quotes a \\ is one of \\\\, \\\" and \\xHH";
+    let (mut bytes, mut at) = (Vec::new(), 1);
+    loop {
+        let rest = &text[at..];
+        let len = match rest {
+            [] => return Err((0, "the quote is not ended".into())),
+            [b'"', ..] => return Ok((bytes, at + 1)),
+            [0, ..] => return Err((at, ZERO.into())),
+            [b'\\', byte @ (b'"' | b'\\'), ..] => {
+                bytes.push(*byte);
+                2
+            }
+            [b'\\', ..] => match hex_byte(rest) {
+                Some(0) => return Err((at, ZERO.into())),
+                Some(byte) => {
+                    bytes.push(byte);
+                    ESCAPE
+                }
+                None => return Err((at, KNOWN.into())),
+            },
+            _ if are_raw() => {
+                let (unit, _) = unit(rest).unwrap_or_default();
+                bytes.extend(unit);
+                unit.len()
+            }
+            _ => {
+                let letter = first_letter(rest).ok_or_else(|| (at, "this is no UTF-8".into()))?;
+                match letter.is_ascii() {
+                    true => bytes.push(letter as u8),
+                    false => bytes.extend(bytes_of(letter).map_err(|why| (at, why))?),
+                }
+                letter.len_utf8()
+            }
+        };
+        at += len;
+    }
+}
+
+/// What is said of a zero byte in a path.
+pub const ZERO: &str = "a zero byte, which no path has";
+
+fn first_letter(text: &[u8]) -> Option<char> {
+    // No letter is longer.
+    text[..text.len().min(4)].utf8_chunks().next()?.valid().chars().next()
+}
+
 /// Bytes as far as they are taken.
 #[derive(Default)]
 struct Taken {
@@ -373,10 +445,7 @@ impl Taken {
     /// Takes `\xHH`, if the text begins with it: a byte from 0x80 on, or one below that where it is the
     /// trail byte of the lead byte before it. Any other `\` is a separator, as it always was.
     fn escape(&mut self, text: &[u8]) -> bool {
-        let digit = |c: u8| (c as char).to_digit(16);
-        let [b'\\', b'x', high, low, ..] = *text else { return false };
-        let (Some(high), Some(low)) = (digit(high), digit(low)) else { return false };
-        let byte = (16 * high + low) as u8;
+        let Some(byte) = hex_byte(text) else { return false };
         let meant = byte >= 0x80 || self.is_trail(byte);
         if meant {
             self.push(&[byte]);
@@ -387,6 +456,13 @@ impl Taken {
 
 /// Length of `\xHH`.
 const ESCAPE: usize = 4;
+
+/// The byte of a `\xHH` that the text begins with.
+fn hex_byte(text: &[u8]) -> Option<u8> {
+    let digit = |c: u8| (c as char).to_digit(16);
+    let [b'\\', b'x', high, low, ..] = *text else { return None };
+    Some((16 * digit(high)? + digit(low)?) as u8)
+}
 
 /// The bytes of text.
 pub fn from_text(text: &[u8]) -> Result<Vec<u8>, String> {

@@ -136,6 +136,11 @@ impl Mapping {
         unsafe { std::slice::from_raw_parts_mut(self.start, self.len) }
     }
 
+    /// Whether what is written to it stays in memory.
+    pub fn is_private(&self) -> bool {
+        self.access == Access::Private
+    }
+
     /// Waits until what was written has reached the file's disk.
     pub fn sync(&self) -> io::Result<()> {
         if self.len == 0 || self.access != Access::Shared {

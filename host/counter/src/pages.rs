@@ -1,7 +1,7 @@
 //! The man page and the completions for shells, from the table of commands: `counter help man`,
 //! `bash`, `zsh` and `fish`. host/install puts them where they belong.
 
-use crate::args::{FORMS, Form, GROUPS, Value};
+use crate::args::{FORMS, Flag, Form, GROUPS, Value};
 use crate::help;
 use crate::version::VERSION;
 use std::fmt::Write;
@@ -109,15 +109,22 @@ fn subjects() -> String {
     commands().into_iter().chain(subjects).collect::<Vec<_>>().join(" ")
 }
 
-/// Options that take such a value, between `|`.
-fn valued(fit: impl Fn(Value) -> bool) -> String {
+/// Options that take a value, between `|`.
+fn valued() -> String {
     let mut found: Vec<&str> = Vec::new();
     for flag in FORMS.iter().flat_map(|form| form.flags) {
-        if flag.value.is_some_and(|(_, value)| fit(value)) && !found.contains(&flag.name) {
+        if flag.value.is_some() && !found.contains(&flag.name) {
             found.push(flag.name);
         }
     }
     found.join("|")
+}
+
+/// Those of a command whose value is a file, between spaces.
+fn filed(form: &Form) -> String {
+    let is_filed = |flag: &Flag| flag.value.is_some_and(|(_, value)| is_file(value));
+    let filed = form.flags.iter().filter(|flag| is_filed(flag));
+    filed.fold(" ".into(), |all, flag| all + flag.name + " ")
 }
 
 fn is_file(value: Value) -> bool {
@@ -132,13 +139,14 @@ fn bash() -> String {
     for form in FORMS {
         let _ = writeln!(
             cases,
-            "        {}) options='{}' operands=({}) ;;",
+            "        {}) options='{}' operands=({}) filed='{}' ;;",
             form.name,
             names(form),
-            kinds(form)
+            kinds(form),
+            filed(form)
         );
     }
-    let (valued, filed, subjects) = (valued(|_| true), valued(is_file), subjects());
+    let (valued, subjects) = (valued(), subjects());
     let commands = commands().join(" ");
     format!(
         r#"# bash completion for counter; made by `counter help bash`
@@ -165,7 +173,7 @@ _counter_plain() {{
 }}
 _counter() {{
     local cur=${{COMP_WORDS[COMP_CWORD]}} prev=${{COMP_WORDS[COMP_CWORD-1]}}
-    local options operands i n=0 image= path quoted
+    local options operands filed i n=0 image= path quoted
     COMPREPLY=()
     if ((COMP_CWORD == 1)); then
         COMPREPLY=($(compgen -W '{commands} help --version' -- "$cur"))
@@ -175,7 +183,7 @@ _counter() {{
 {cases}        help) COMPREPLY=($(compgen -W '{subjects}' -- "$cur")); return ;;
         *) return ;;
     esac
-    if [[ $prev == @({filed}) ]]; then
+    if [[ $filed == *" $prev "* ]]; then
         compopt -o filenames
         mapfile -t COMPREPLY < <(compgen -f -- "$cur")
         return
@@ -282,7 +290,7 @@ fn fish() -> String {
     for form in FORMS {
         let _ = writeln!(out, "        case {}\n            set kinds {}", form.name, kinds(form));
     }
-    let valued = valued(|_| true).replace('|', " ");
+    let valued = valued().replace('|', " ");
     let _ = write!(
         out,
         "    end\n    set -l n 1\n    set -l skip 0\n    for word in $words[3..-1]\n        if test $skip = 1\n\

@@ -18,8 +18,13 @@ pub struct Progress {
 impl Progress {
     /// Starts to watch over `total` bytes of work; 0 where only the time can be told.
     pub fn start(what: &str, total: u64) -> Progress {
+        Progress::within(Instant::now(), what, total)
+    }
+
+    /// The same of a part of work that is done since then.
+    pub fn within(since: Instant, what: &str, total: u64) -> Progress {
         let done = Arc::new(AtomicU64::new(0));
-        let running = io::stderr().is_terminal().then(|| watch(what, total, done.clone()));
+        let running = io::stderr().is_terminal().then(|| watch(since, what, total, done.clone()));
         Progress { done, total, running: running.flatten() }
     }
 
@@ -30,12 +35,16 @@ impl Progress {
 }
 
 /// Shows what is done. Where no thread can be had, the work is done without.
-fn watch(what: &str, total: u64, seen: Arc<AtomicU64>) -> Option<(Sender<()>, JoinHandle<()>)> {
+fn watch(
+    start: Instant,
+    what: &str,
+    total: u64,
+    seen: Arc<AtomicU64>,
+) -> Option<(Sender<()>, JoinHandle<()>)> {
     let (stop, stopped) = mpsc::channel();
     let what = what.to_string();
     let watch = thread::Builder::new().spawn(move || {
-        let start = Instant::now();
-        let mut wait = Duration::from_secs(1);
+        let mut wait = Duration::from_secs(1).saturating_sub(start.elapsed());
         while stopped.recv_timeout(wait) == Err(RecvTimeoutError::Timeout) {
             wait = Duration::from_millis(250);
             show(&what, seen.load(Ordering::Relaxed).min(total), total, start.elapsed());

@@ -131,10 +131,11 @@ pub fn record(args: &Args) -> Outcome<()> {
     let account = made(&image, &mut desk, listed)?;
     let mut notes = account.notes(space.opened.disc_end);
     if let Some(place) = &place {
-        let kept = Kept::open(place, true)?;
+        let mut kept = Kept::open(place, true)?;
         may_be_replaced(&kept, args)?;
-        os::holding(|| kept::put(&kept.totals(account.text())))?;
         notes.extend(forgotten(&kept));
+        let totals = kept.totals(account.text());
+        os::holding(|| kept.put(&totals))?;
     }
     let (end, file) = (space.opened.disc_end, args.record.as_ref().map(names::file));
     if args.json {

@@ -5,7 +5,7 @@ use crate::args::Args;
 use crate::disk::{self, reason};
 use crate::failure::{CANNOT_CREATE, CUT, Failure, INPUT_OUTPUT, Outcome, UNSAID};
 use crate::image::{Desk, Image, untold};
-use crate::journal::{self, Journal, Totals};
+use crate::journal::{self, Journal, Line};
 use crate::json::Json;
 use crate::kept;
 use crate::names;
@@ -30,10 +30,11 @@ pub fn recover(args: &Args) -> Outcome<()> {
         _ if args.json => json(finished.as_ref()).document(),
         None => "there is no journal: no edit was cut, nothing is to be done\n".into(),
         Some(edit) => format!(
-            "finished an edit that was cut: {}\n{}{}done: written and synced\n",
+            "finished an edit that was cut: {}\n{}{}{}done: written and synced\n",
             edit.words,
             edit.turn.as_ref().map_or(String::new(), |turn| turn.line(edit.disc_end)),
-            edit.file.as_ref().map_or(String::new(), |file| format!("record written to {file}\n"))
+            edit.file.as_ref().map_or(String::new(), |file| format!("record written to {file}\n")),
+            edit.line.as_ref().map_or(String::new(), |line| go_on(line, path) + "\n")
         ),
     };
     let told = for_terminal(&told).into_bytes();
@@ -53,7 +54,31 @@ fn json(finished: Option<&Finished>) -> Json {
                 .and_then(|edit| edit.turn.as_ref().map(|turn| turn.json(edit.disc_end)))
                 .into(),
         ),
+        ("sheet", finished.and_then(|edit| edit.line.as_ref().map(line_json)).into()),
     ])
+}
+
+fn line_json(line: &Line) -> Json {
+    Json::Object(vec![
+        ("file", names::file(&line.sheet).into()),
+        ("line", line.number.into()),
+        ("lines", line.of.into()),
+        ("from", (line.number < line.of).then_some(line.number + 1).into()),
+    ])
+}
+
+/// What is left of a sheet whose line is done.
+pub fn go_on(line: &Line, image: &Path) -> String {
+    match line.number == line.of {
+        true => "that was the last line of the sheet".into(),
+        false => from(&line.sheet, image, line.number + 1),
+    }
+}
+
+/// The command that runs a sheet from a line on.
+pub fn from(sheet: &Path, image: &Path, line: u32) -> String {
+    let [sheet, image] = [sheet, image].map(names::file);
+    format!("go on with `counter sheet {image} {sheet} --from {line}`")
 }
 
 /// An edit that was cut and is finished now: in words, and what its record is then. Another FST maximum counts
@@ -63,6 +88,8 @@ pub struct Finished {
     turn: Option<Turn>,
     /// The record's file, where it was written.
     pub file: Option<String>,
+    /// The line of a sheet that it is.
+    pub line: Option<Line>,
     disc_end: u32,
 }
 
@@ -118,8 +145,18 @@ pub fn put_right(image: &Image, how: &How) -> Outcome<Option<Finished>> {
     may_be_applied(file, path, &mut journal, how.anyway)?;
     signals::begin_writing(false);
     let progress = Progress::start("recovering", redo::work(&journal));
-    let words = journal.plan.change.words.clone();
-    redo::redo(file, &mut journal, &progress).map_err(|why| stuck(file, path, &journal, &why))?;
+    let words = journal.plan.words();
+    redo::redo(file, &mut journal, &progress).map_err(|why| {
+        let failure = stuck(file, path, &journal, &why);
+        match &journal.plan.line {
+            // It is given up.
+            Some(line) if failure.status() != CUT => {
+                let on = from(&line.sheet, path, line.number);
+                failure.then(format!("; {} was not run: {on}", line.words()), Vec::new())
+            }
+            _ => failure,
+        }
+    })?;
     let mut desk = Desk::new();
     let opened = counter::open(image.bytes(), &mut desk.lend())
         .map_err(|number| not_opened(path, &journal, number))?;
@@ -135,15 +172,16 @@ pub fn put_right(image: &Image, how: &How) -> Outcome<Option<Finished>> {
         None => Some(counted.map_or_else(|| record::alone(image, &mut desk), Ok)?),
     };
     journal.remove().map_err(|why| still_there(&journal, &why))?;
-    Ok(Some(Finished { words, turn, file, disc_end: opened.disc_end }))
+    let line = journal.plan.line;
+    Ok(Some(Finished { words, turn, file, line, disc_end: opened.disc_end }))
 }
 
-fn left(totals: &Totals) {
+fn left(totals: &journal::Totals) {
     eprintln!("counter: {}: left as it is, without this edit", names::file(&totals.file));
 }
 
 fn may_be_applied(file: &File, path: &Path, journal: &mut Journal, anyway: bool) -> Outcome<()> {
-    let words = journal.plan.change.words.clone();
+    let words = journal.plan.words();
     let unread = |e: io::Error| unread(path, &words, &e);
     match redo::owned(file, journal).map_err(unread)? {
         Owned::No => return Err(useless(path, "it belongs to another image")),
@@ -199,7 +237,7 @@ fn not_opened(path: &Path, journal: &Journal, number: u32) -> Failure {
         "{}: the edit that was cut ({}) was finished as its journal says, but the image does not open \
          (refused {number}). The journal is kept: {}. Go back to your copy",
         names::file(path),
-        journal.plan.change.words,
+        journal.plan.words(),
         names::file(journal.path())
     ))
 }
@@ -220,7 +258,7 @@ fn changed(path: &Path, journal: &Journal, why: &str) -> Failure {
          {why}. Another program has changed it since. Nothing was touched. Look at it with `counter check \
          --as-is {0}`; once you know that it is as it should be, take {2} away",
         names::file(path),
-        journal.plan.change.words,
+        journal.plan.words(),
         names::file(journal.path())
     ))
 }
@@ -235,7 +273,7 @@ fn clip_lost(path: &Path, journal: &Journal) -> Failure {
          holds other bytes. Nothing was touched. Copy the same clip to that name, then `counter recover \
          {0}` finishes the edit; {back} take {3} away",
         names::file(path),
-        journal.plan.change.words,
+        journal.plan.words(),
         names::file(journal::clip_beside(path)),
         names::file(journal.path())
     ))
@@ -273,7 +311,7 @@ pub fn stuck(file: &File, path: &Path, journal: &Journal, why: &io::Error) -> Fa
          `counter recover {0}` finishes it",
         names::file(path),
         reason(why),
-        change.words
+        journal.plan.words()
     ))
 }
 

@@ -2,10 +2,10 @@
 //! one that says that a mapped page could not be had.
 
 use crate::failure::{CUT, INPUT_OUTPUT};
-use std::ffi::{CString, c_char};
+use std::ffi::{CString, OsString, c_char};
 use std::fmt::Arguments;
 use std::io::{self, IsTerminal, Write};
-use std::os::unix::ffi::OsStrExt;
+use std::os::unix::ffi::{OsStrExt, OsStringExt};
 use std::path::Path;
 use std::ptr;
 use std::sync::OnceLock;
@@ -292,15 +292,13 @@ pub fn no_way_back() -> io::Result<()> {
     go_on()
 }
 
-/// From here on there is a journal: if a page of the image fails, the edit is finished from it, and that
-/// is told as the edit would have been.
-pub fn rescue(image: &Path, json: bool) {
-    let name = CString::new(image.as_os_str().as_bytes()).ok();
+/// From here on there is a journal: if a page of the image fails, the program begins anew with these words,
+/// finishes the edit from it, and tells that as the edit would have been.
+pub fn rescue(words: Vec<OsString>) {
+    let words = [OsString::from("counter")].into_iter().chain(words);
+    let words: Result<Vec<CString>, _> = words.map(|word| CString::new(word.into_vec())).collect();
     // Never given back: the handler may be using it.
-    let words = name.map(|name| {
-        let mut words: Vec<CString> = vec![c"counter".into(), c"recover".into()];
-        words.extend(json.then(|| c"--json".into()));
-        words.extend([c"--".into(), name]);
+    let words = words.ok().map(|words| {
         let mut words: Vec<_> =
             words.into_iter().map(|word| word.into_raw().cast_const()).collect();
         words.push(ptr::null());

@@ -1,6 +1,7 @@
 //! What an edit did, in words.
 
-use crate::call::{Call, Wish};
+use crate::account::Turn;
+use crate::call::{Call, What, Wish};
 use crate::disc::{Disc, Kind, Node};
 use crate::maximum::Maximum;
 use crate::names::{self, shown};
@@ -17,29 +18,49 @@ fn named(out: &mut Vec<u8>, before: &str, path: &[u8], after: &str) {
 
 /// `trial` is the edit as it was tried.
 pub fn report(wish: &Wish, call: &Call, before: &Disc, trial: &Trial) -> Vec<u8> {
+    let mut out = answer(wish, call, before, trial);
+    if trial.maximum.is_none() {
+        out.extend(left(before.opened.fst_size, &trial.after, &trial.turn));
+    }
+    out
+}
+
+/// What edits leave: the table's size, where it was another, and the record.
+pub fn left(old: u32, after: &Disc, turn: &Turn) -> Vec<u8> {
+    let new = after.opened.fst_size;
+    let table = match old == new {
+        true => String::new(),
+        false => format!("table: {} -> {} bytes\n", grouped(old.into()), grouped(new.into())),
+    };
+    (table + &turn.line(after.opened.disc_end)).into_bytes()
+}
+
+/// What the edit did, but for what it leaves.
+pub fn answer(wish: &Wish, call: &Call, before: &Disc, trial: &Trial) -> Vec<u8> {
     let (after, nothing) = (&trial.after, trial.change.is_nothing());
     let mut out = Vec::new();
     if let Some(maximum) = &trial.maximum {
         stated(&mut out, trial.change.maximum, maximum);
         return out;
     }
-    match *call {
-        Call::MakeFolders(_) => {
+    match call.what {
+        What::MakeFolders(_) => {
             named_as(&mut out, "made ", &new_entries(call, before, trial));
             if out.is_empty() {
                 let anew = if nothing { "" } else { "; the table was written anew" };
                 let _ = writeln!(out, "every folder of the path was there{anew}");
             }
         }
-        Call::Insert(..) => named_as(&mut out, "added ", &new_entries(call, before, trial)),
-        Call::Move(at, _) | Call::Resize(at, _) | Call::Fill(at, _) => {
+        What::Insert(..) => named_as(&mut out, "added ", &new_entries(call, before, trial)),
+        What::InsertFolder(..) => named_as(&mut out, "made ", &new_entries(call, before, trial)),
+        What::Move(at, _) | What::Resize(at, _) | What::Fill(at, _) => {
             placed(&mut out, wish, &before.nodes[at as usize], &after.nodes[at as usize], nothing);
             match lost(wish, call, before, trial) {
                 0 => {}
                 lost => out.extend(lost_words(wish, lost).as_bytes()),
             }
         }
-        Call::Rewrite if nothing => out.extend(b"the table is as a rewrite leaves it\n"),
+        What::Rewrite if nothing => out.extend(b"the table is as a rewrite leaves it\n"),
         _ => out.extend(b"the table was written anew\n"),
     }
     if let Some((first, last)) = renumbered(call, before, trial) {
@@ -48,19 +69,17 @@ pub fn report(wish: &Wish, call: &Call, before: &Disc, trial: &Trial) -> Vec<u8>
     for note in notes(call, before, trial, shown) {
         out.extend([b"note: ", &note[..], b"\n"].concat());
     }
-    let (old, new) = (before.opened.fst_size, after.opened.fst_size);
-    if old != new {
-        let _ = writeln!(out, "table: {} -> {} bytes", grouped(old.into()), grouped(new.into()));
-    }
-    out.extend(trial.turn.line(after.opened.disc_end).as_bytes());
     out
 }
 
 /// What a dry run says.
 pub fn dry(text: &[u8]) -> Vec<u8> {
-    let last = &b"all this would be done; nothing was written\n"[..];
-    let lines = text.split_inclusive(|&b| b == b'\n').chain([last]);
-    lines.flat_map(|line| [b"dry run: ", line].concat()).collect()
+    led(b"dry run: ", &[text, b"all this would be done; nothing was written\n"].concat())
+}
+
+/// Each line of the text with the same before it.
+pub fn led(before: &[u8], text: &[u8]) -> Vec<u8> {
+    text.split_inclusive(|&b| b == b'\n').flat_map(|line| [before, line].concat()).collect()
 }
 
 /// Another maximum, and the table held against it.
@@ -91,9 +110,11 @@ fn named_as(out: &mut Vec<u8>, what: &str, nodes: &[&Node]) {
 /// Those that the edit made.
 fn new_entries<'a>(call: &Call, before: &Disc, trial: &'a Trial) -> Vec<&'a Node> {
     let after = &trial.after;
-    match (call, trial.found) {
-        (Call::Insert(..), Some(number)) => vec![&after.nodes[number as usize]],
-        (Call::MakeFolders(_), _) => {
+    match (call.what, trial.found) {
+        (What::Insert(..) | What::InsertFolder(..), Some(number)) => {
+            vec![&after.nodes[number as usize]]
+        }
+        (What::MakeFolders(_), _) => {
             // Where paths are not kept, `entry N` stands for them, and only the new numbers are told.
             let known: HashSet<&[u8]> = before.nodes.iter().map(|node| &node.path[..]).collect();
             after.nodes.iter().filter(|node| !known.contains(&node.path[..])).collect()
@@ -116,7 +137,7 @@ pub fn notes(
     trial: &Trial,
     spell: fn(&[u8]) -> Vec<u8>,
 ) -> Vec<Vec<u8>> {
-    if let Call::Move(_, to) = *call {
+    if let What::Move(_, to) = call.what {
         let notes = places(to, trial.after.opened.disc_end);
         return notes.into_iter().map(String::into_bytes).collect();
     }
@@ -184,11 +205,15 @@ fn without_case(
     after: &Disc,
     spell: fn(&[u8]) -> Vec<u8>,
 ) -> impl Iterator<Item = Vec<u8>> {
-    let new: HashSet<usize> = new.iter().map(|node| node.number as usize).collect();
-    let pairs = names::alike(after.nodes.iter().map(|node| (node.parent, &node.name[..])));
-    let pairs = pairs.into_iter().filter(move |(a, b)| new.contains(a) || new.contains(b));
-    pairs.map(move |(found, hidden)| {
-        let [found, hidden] = [found, hidden].map(|at| spell(&after.nodes[at].path));
+    let folders: HashSet<u32> = new.iter().map(|node| node.parent).collect();
+    let new: HashSet<u32> = new.iter().map(|node| node.number).collect();
+    let beside = after.nodes.iter().filter(|node| folders.contains(&node.parent));
+    let beside: Vec<&Node> = beside.collect();
+    let pairs = names::alike(beside.iter().map(|node| (node.parent, &node.name[..])));
+    let pairs = pairs.into_iter().map(move |(a, b)| [a, b].map(|at| beside[at]));
+    let pairs = pairs.filter(move |pair| pair.iter().any(|node| new.contains(&node.number)));
+    pairs.map(move |pair| {
+        let [found, hidden] = pair.map(|node| spell(&node.path));
         let words = [&b": a game that looks up without case finds "[..], b" in its place"];
         [&hidden[..], words[0], &found, words[1]].concat()
     })

@@ -2,15 +2,15 @@
 //! memory only. It refuses as it would, and what it changed there is what the edit will write.
 
 use crate::account::{self, Spent, Turn};
-use crate::call::{Call, Wish, refused};
+use crate::call::{Call, What, Wish, refused};
 use crate::change::Change;
 use crate::clip::Clip;
-use crate::disc::{CLUSTER, Disc, Kind, a_file_on, table_anew, table_end};
+use crate::disc::{CLUSTER, Disc, Kind, Node, TOO_LONG, a_file_on, table_anew, table_end};
 use crate::failure::{Failure, INTERNAL, Outcome};
-use crate::header::Header;
+use crate::header::{FST_SIZE_AT, Header};
 use crate::image::{Desk, Image};
 use crate::maximum::{Maximum, explained, new_size};
-use counter_sys::{self as counter, Opened, Record};
+use counter_sys::{self as counter, MOST_PATH, Opened, Record};
 use std::ops::Range;
 
 pub struct Trial {
@@ -33,11 +33,18 @@ pub fn try_out(
     before: &Disc,
     mut turn: Turn,
 ) -> Outcome<Trial> {
-    let mut copy = image.trial(&stand_ins(call, image, desk, before))?;
+    let word = FST_SIZE_AT..FST_SIZE_AT + 4;
+    let fst = before.opened.fst_offset as usize;
+    let table = fst..fst + before.opened.fst_size as usize;
+    let mut copy = image.trial(&stand_ins(call, image, desk, before), &[word, table])?;
     let (given, team) = (turn.account.record, turn.team);
     let record = &mut turn.account.record;
     let found = call.run(copy.bytes_mut(), desk.lend(), record, team);
     let found = found.map_err(|number| match number {
+        30 => not_as_read(image),
+        9 if call.is_line() && wish.path().is_some_and(|path| path.len() > MOST_PATH) => {
+            refused(wish, 9).because(TOO_LONG)
+        }
         26 => above_maximum(wish, call, &mut copy, desk, before, (given, team)),
         17 => {
             let path = wish.path().unwrap_or_default();
@@ -52,6 +59,9 @@ pub fn try_out(
         number => refused(wish, number),
     })?;
     let after = Disc::read(&copy, desk)?;
+    if call.is_line() && !is_as_asked(call, found, &after) {
+        return Err(not_as_read(image));
+    }
     let table = before.opened.fst_offset as usize;
     let (old_size, new_size) = (before.opened.fst_size, after.opened.fst_size);
     let span = table..table + old_size.max(new_size) as usize;
@@ -70,7 +80,7 @@ pub fn try_out(
         maximum: None,
     };
     let mut maximum = None;
-    if let Call::Maximum(to) = *call {
+    if let What::Maximum(to) = call.what {
         let header = Header::read(image.bytes()).map_err(|number| refused(wish, number))?;
         change.maximum = Some((header.fst_maximum(), to));
         (change.old, change.new) = Default::default();
@@ -88,6 +98,32 @@ pub fn try_out(
         return Err(Failure::error(INTERNAL, text));
     }
     Ok(Trial { found, after, change, given, turn, maximum })
+}
+
+/// A line was run otherwise than it was read.
+fn not_as_read(image: &Image) -> Failure {
+    let text = format!("{}: libcounter reads this line otherwise than the program", image.name);
+    Failure::error(INTERNAL, text)
+}
+
+/// Whether a line that was accepted made the entry, or left the file, that it is about.
+fn is_as_asked(call: &Call, found: Option<u32>, after: &Disc) -> bool {
+    let node = |at: Option<u32>| after.nodes.get(at? as usize);
+    let is_called = |name: &[u8]| {
+        let named = |node: &Node| !after.has_paths() || node.name == name;
+        node(found).filter(|node| named(node))
+    };
+    let place = |at: u32| match node(Some(at)).map(|node| node.kind) {
+        Some(Kind::File { offset, size }) => Some((offset, size)),
+        _ => None,
+    };
+    match call.what {
+        What::Insert(_, name) => is_called(name).is_some_and(|node| !node.is_directory()),
+        What::InsertFolder(_, name) => is_called(name).is_some_and(Node::is_directory),
+        What::Move(at, to) => place(at).is_some_and(|(offset, _)| offset == to),
+        What::Resize(at, to) => place(at).is_some_and(|(_, size)| size == to),
+        _ => false,
+    }
 }
 
 /// 26, with by how many bytes: whatever else could fail here leaves the number as it is.
@@ -158,10 +194,10 @@ fn stand_ins(call: &Call, image: &Image, desk: &mut Desk, disc: &Disc) -> Vec<Ra
     };
     let old = span(offset, size);
     let mut places = Vec::new();
-    match *call {
-        Call::Move(_, to) => places.push(span(to, size)),
-        Call::Resize(_, to) if to > size => places.extend(found(to).map(|at| span(at, size))),
-        Call::Fill(_, clip) if clip.len() > size as usize => {
+    match call.what {
+        What::Move(_, to) => places.push(span(to, size)),
+        What::Resize(_, to) if to > size => places.extend(found(to).map(|at| span(at, size))),
+        What::Fill(_, clip) if clip.len() > size as usize => {
             let len = u32::try_from(clip.len()).unwrap_or(u32::MAX);
             places.push(old.end..old.start + u64::from(len));
             places.extend(found(len).map(|at| span(at, len)));

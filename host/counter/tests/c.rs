@@ -3,8 +3,9 @@
 mod support;
 
 use counter_sys::{
-    CLUSTER_SIZE, MOST_ENTRIES, MOST_LEVELS, MOST_PATH, MOST_REGIONS, MOST_TABLE, MOST_TEXT,
-    MOST_WORDS, Memory, RECORD_WORDS, Record, TEAMS, Team,
+    CLUSTER_SIZE, MOST_ENTRIES, MOST_LEVELS, MOST_LINES, MOST_PATH, MOST_REGIONS, MOST_TABLE,
+    MOST_TEXT, MOST_WORDS, Memory, RECORD_WORDS, Record, SHEET_HEADER_SIZE, SHEET_LINE_SIZE, TEAMS,
+    Team,
 };
 use std::fs;
 use std::path::{Path, PathBuf};
@@ -165,6 +166,47 @@ int main(int argc, char **argv)
     let refused: Run = Command::new(&program).arg("less").output().unwrap().into();
     assert_eq!(refused.status, 21);
     assert!(refused.bytes == [7; 0x1_0001]);
+}
+
+/// The program does the same with the same sheet, and stops at the same line.
+#[test]
+fn a_sheet_is_run_from_c() {
+    let temp = Temp::new();
+    let text = r#"
+#include "counter.h"
+#include <stdio.h>
+static uint8_t image[0x2000], sheet[0x1000];
+static uint32_t words[COUNTER_MOST_WORDS];
+static uint8_t bytes[COUNTER_MOST_TABLE];
+static const uint32_t limits[COUNTER_TEAMS] = { UINT32_MAX }, shares[COUNTER_TEAMS] = { 0 };
+int main(int argc, char **argv)
+{
+    uint32_t record[COUNTER_RECORD_SLOTS], line[1] = { 7 }, number;
+    FILE *file = fopen(argv[argc - 1], "rb");
+    size_t len = fread(image, 1, sizeof image, stdin), sheet_len = file ? fread(sheet, 1, sizeof sheet, file) : 0;
+    if (counter_make_record(image, len, words, COUNTER_MOST_WORDS, limits, shares, record) != 0)
+        return 70;
+    number = counter_sheet(image, len, words, COUNTER_MOST_WORDS, bytes, sizeof bytes, record, 0, sheet, sheet_len, line);
+    fwrite(image, 1, len, stdout);
+    fprintf(stderr, "line %u, %u edits\n", (unsigned)line[0], (unsigned)record[5]);
+    return (int)number;
+}
+"#;
+    let program = over_library(&temp.write("sheet.c", text.as_bytes()), &temp);
+    let text = "mkdir /d\nadd /d/x\nresize /a 0x180\nmove /a 0x1000\nadd /d/x\nmkdir /e\n";
+    let (day, sheet) = (temp.write("day.txt", text.as_bytes()), temp.at("day.sheet"));
+    assert_eq!(
+        run(&["sheet", "--compile", day.to_str().unwrap(), sheet.to_str().unwrap()]).status,
+        0
+    );
+    let image = temp.write("disc.iso", &filled_master());
+    let stdin = fs::File::open(&image).unwrap();
+    let from_c: Run = Command::new(&program).arg(&sheet).stdin(stdin).output().unwrap().into();
+    assert_eq!((from_c.status, from_c.err.as_str()), (19, "line 5, 4 edits\n"));
+    let run = on("sheet", &image, &[sheet.to_str().unwrap()]);
+    assert_eq!(run.status, 19);
+    assert!(run.err.contains("line 5 of 6: add /d/x: refused 19"), "{}", run.err);
+    assert!(fs::read(&image).unwrap() == from_c.bytes);
 }
 
 #[test]
@@ -687,7 +729,7 @@ fn the_guides_station_refuses_and_loses_a_note() {
 fn the_header_compiles_alone_as_c_and_as_c_plus_plus() {
     let temp = Temp::new();
     let text = "#include \"counter.h\"\n#include \"counter.h\"\n\
-                int main(void) { return counter_cause(30) != 0 || counter_cause(0) == 0; }\n";
+                int main(void) { return counter_cause(31) != 0 || counter_cause(0) == 0; }\n";
     for (compiler, name, standard) in [
         ("cc", "alone.c", "-std=c99"),
         ("cc", "alone.c", "-std=c17"),
@@ -738,6 +780,7 @@ fn causes_and_limits_are_those_of_the_rules() {
         ("MOST_TEXT", MOST_TEXT, 1048576),
         ("MOST_LEVELS", MOST_LEVELS, 64),
         ("MOST_PATH", MOST_PATH, 1024),
+        ("MOST_LINES", MOST_LINES, 1024),
     ];
     for (name, from_rust, rule) in limits {
         assert_eq!(from_rust, rule, "{name}");
@@ -747,6 +790,9 @@ fn causes_and_limits_are_those_of_the_rules() {
     assert_eq!(MOST_WORDS, 4 * (MOST_ENTRIES + 2));
     assert_eq!(MOST_TABLE, 12 * MOST_ENTRIES + MOST_TEXT);
     assert!(header.contains(&format!("#define COUNTER_CLUSTER_SIZE {CLUSTER_SIZE:#x}\n")));
+    for (name, bytes) in [("HEADER", SHEET_HEADER_SIZE), ("LINE", SHEET_LINE_SIZE)] {
+        assert!(header.contains(&format!("#define COUNTER_SHEET_{name}_BYTES {bytes}\n")));
+    }
     for line in [
         "#define COUNTER_MOST_REGIONS (COUNTER_MOST_ENTRIES + 1)\n",
         "#define COUNTER_MOST_WORDS (4 * (COUNTER_MOST_ENTRIES + 2))\n",

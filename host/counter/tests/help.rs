@@ -8,10 +8,10 @@ use std::path::Path;
 use std::process::{Command, Stdio};
 use support::*;
 
-const COMMANDS: [&str; 24] = [
+const COMMANDS: [&str; 25] = [
     "info", "list", "tree", "free", "find", "place", "record", "cat", "extract", "dol", "map",
     "check", "compare", "hash", "report", "mkdir", "add", "move", "resize", "fill", "rewrite",
-    "maximum", "recover", "new",
+    "maximum", "sheet", "recover", "new",
 ];
 
 /// A folder with the files that the examples name.
@@ -31,6 +31,8 @@ fn fixture() -> Temp {
         "teams.txt",
         b"# number, limit, share, name\n0 none 256K English\n1 512K 128K French\n",
     );
+    temp.write("day.txt", b"mkdir /text/de\nresize /text/en/msg.bin 5000\n");
+    shell(&temp, "counter sheet --compile day.txt rest.sheet");
     temp.write("wishes.txt", b"/opening.bnr 0x1960\n/text/fr/lines.bin 4661\n");
     fs::create_dir_all(temp.at("parts/text")).unwrap();
     temp.write("parts/text/lines.bin", b"lines");
@@ -98,6 +100,8 @@ fn help_comes_in_every_way_and_is_about_its_command_alone() {
         "--empty",
         "--code",
         "--from-dir",
+        "--compile",
+        "--show",
     ];
     for command in COMMANDS {
         let help = run(&["help", command]).out;
@@ -244,6 +248,10 @@ fn bash_completes_commands_options_files_and_paths() {
     assert_eq!(offered(&["counter", "fill", "--size", "3", "disc.iso", "/op"]), ["/opening.bnr"]);
     assert_eq!(offered(&["counter", "new", "new.iso", "--fr"]), ["--from", "--from-dir"]);
     assert_eq!(offered(&["counter", "new", "new.iso", "--from", "wi"]), ["wishes.txt"]);
+    assert_eq!(offered(&["counter", "sheet", "--compile", "day"]), ["day.txt"]);
+    assert_eq!(offered(&["counter", "sheet", "disc.iso", "re"]), ["rest.sheet"]);
+    // The number of a line.
+    assert_eq!(offered(&["counter", "sheet", "disc.iso", "--from", ""]), [""; 0]);
     assert_eq!(offered(&["counter", "help", "saf"]), ["safety"]);
 }
 

@@ -267,7 +267,7 @@ fn a_torn_or_foreign_journal_is_never_applied() {
 
     // Of a version that is not known yet.
     let mut bytes = whole.clone();
-    bytes[16] = 5;
+    bytes[16] = 6;
     fs::write(&path, &bytes).unwrap();
     cut.is_left_alone("it is torn, or of a later version of counter");
 
@@ -310,9 +310,9 @@ fn a_journal_writes_no_file_but_a_record() {
         }
         let whole = fs::read(journal_of(&cut.image)).unwrap();
         let end = whole.len() - 24;
-        // No record, no maximum, and the sum.
-        let mut plan = whole[..end - 40].to_vec();
-        for part in [file.as_os_str().as_encoded_bytes(), old, new, &[]] {
+        // No record, no maximum, no sheet, and the sum.
+        let mut plan = whole[..end - 48].to_vec();
+        for part in [file.as_os_str().as_encoded_bytes(), old, new, &[], &[]] {
             plan.extend((part.len() as u64).to_le_bytes());
             plan.extend(part);
         }
@@ -322,7 +322,7 @@ fn a_journal_writes_no_file_but_a_record() {
     }
 }
 
-/// Whoever wrote a journal, its words and the name of its record are read by people.
+/// Whoever wrote a journal, its words and the names of its record and its sheet are read by people.
 #[test]
 fn words_of_a_foreign_journal_are_not_obeyed() {
     for odd in ["x\u{1b}[2J\ny", "x\u{202e}\u{2066}y", "x\r\u{9b}y"] {
@@ -333,10 +333,12 @@ fn words_of_a_foreign_journal_are_not_obeyed() {
         let at = whole.windows(words.len()).position(|part| part == words).unwrap();
         let len = (odd.len() as u64).to_le_bytes();
         let mut plan =
-            [&whole[..at - 8], &len, odd.as_bytes(), &whole[at + words.len()..end - 40]].concat();
+            [&whole[..at - 8], &len, odd.as_bytes(), &whole[at + words.len()..end - 48]].concat();
         let record = Table::of(&cut.image).record_file(2);
         let file = cut.temp.at(odd);
-        for part in [file.as_os_str().as_encoded_bytes(), b"", record.as_bytes(), b""] {
+        let sheet = [b"\x01\0\0\0\x02\0\0\0", odd.as_bytes()].concat();
+        let file_of = file.as_os_str().as_encoded_bytes();
+        for part in [file_of, b"", record.as_bytes(), b"", &sheet] {
             plan.extend((part.len() as u64).to_le_bytes());
             plan.extend(part);
         }
@@ -362,17 +364,17 @@ fn words_of_a_foreign_journal_are_not_obeyed() {
     }
 }
 
-/// The third version had no maximum: a length of 0 less. The second had no record: three more of them less. The
-/// first had no clips: two numbers less.
+/// The fourth version had no sheet, the third no maximum: a length of 0 less each. The second had no record:
+/// three more of them less. The first had no clips: two numbers less.
 #[test]
 fn a_journal_of_an_earlier_version_is_carried_on() {
-    for version in [1, 2, 3] {
+    for version in [1, 2, 3, 4] {
         let cut = Cut::new();
         let path = journal_of(&cut.image);
         let whole = fs::read(&path).unwrap();
         let end = whole.len() - 24;
         let clip = 16 + if version == 1 { 12 } else { 14 } * 8;
-        let end_of_plan = end - if version == 3 { 16 } else { 40 };
+        let end_of_plan = end - [48, 48, 24, 16][version as usize - 1];
         let mut early = [&whole[..clip], &whole[16 + 14 * 8..end_of_plan]].concat();
         early[16] = version;
         fs::write(&path, with_sums(early, &whole[end..end + 16])).unwrap();

@@ -966,8 +966,8 @@ fn help_documents_commands_statuses_and_safety() {
         assert!(run(&["help", command]).out.contains(&format!("counter {command} ")));
     }
     // The causes; c.rs has their words.
-    assert!(run_help.out.contains("\n      1 to 29: refused"));
-    for number in 1..=29 {
+    assert!(run_help.out.contains("\n      1 to 30: refused"));
+    for number in 1..=30 {
         assert!(run_help.out.contains(&format!("\n  {number:2}  refused: ")), "{number}");
     }
     for status in [64, 65, 66, 70, 73, 74, 75, 77] {

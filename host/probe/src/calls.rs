@@ -2,14 +2,16 @@
 //! to afterwards: working memory zero; the image as it was, unless an edit was accepted; list words
 //! past the answer, and on a refusal all slots, lists and the record, as they were; after an accepted
 //! edit the record as the image's totals have moved, and in it the edit's own team alone; of a part of an
-//! edit its own bytes alone, and refused as the edit is; behind the disc end of a new master all as it was.
+//! edit its own bytes alone, and refused as the edit is; behind the disc end of a new master all as it was; of a sheet
+//! that is refused at a line what its lines before leave.
 
 use crate::language::{Answer, Stop};
 use crate::zeros::Zeros;
 pub use counter_sys::ENTRY_WORDS;
 use counter_sys::guarded::{Element, Guarded};
 use counter_sys::{
-    CLUSTER_WORDS, DOL_WORDS, HEADER_SIZE, RECORD_WORDS, REGION_WORDS, Record, TEAMS, Team, call,
+    CLUSTER_WORDS, DOL_WORDS, HEADER_SIZE, RECORD_WORDS, REGION_WORDS, Record, SHEET_HEADER_SIZE,
+    SHEET_LINE_SIZE, TEAMS, Team, call,
 };
 use std::ops::Range;
 
@@ -99,12 +101,14 @@ pub const MOVE: InParts = in_parts!(counter_move_file, counter_move_copy, counte
 pub const RESIZE: InParts =
     in_parts!(counter_resize_file, counter_resize_copy, counter_resize_table);
 
-/// What a call does with the image; a new master is written as an edit is, and zeros want no working bytes.
+/// What a call does with the image; a new master is written as an edit is, zeros want no working bytes, and of a sheet
+/// that is refused lines may have run.
 #[derive(Clone, Copy, PartialEq)]
 enum Does {
     Look,
     Edit,
     Zero,
+    Sheet,
 }
 
 /// What an accepted call does with the record.
@@ -135,10 +139,51 @@ fn moved(given: Record, team: u32, cost: i64, largest: u32) -> Option<Record> {
     Some(record)
 }
 
+/// Whether accepted edits of this team, so many, can have made this of a record, where they cost so much together.
+/// Each leaves at least 0 taken bytes, so what is taken may be more than the sum.
+fn moved_along(
+    given: Record,
+    back: Record,
+    (team, edits): (u32, u32),
+    cost: i64,
+    largest: u32,
+) -> bool {
+    if edits == 0 {
+        return back == given;
+    }
+    let place = team as usize;
+    let (Some(own), Some(now)) = (given.teams.get(place), back.teams.get(place)) else {
+        return false;
+    };
+    let (Ok(used), Some(count)) =
+        (u32::try_from(i64::from(given.used) + cost), own.edits.checked_add(edits))
+    else {
+        return false;
+    };
+    let mut wanted = Record { used, largest, ..given };
+    wanted.teams[place] = Team { taken: now.taken, edits: count, ..*own };
+    let (least, taken) = ((i64::from(own.taken) + cost).max(0), i64::from(now.taken));
+    back == wanted && if edits == 1 { taken == least } else { taken >= least }
+}
+
+fn number_at(bytes: &[u8], at: usize) -> Option<u32> {
+    bytes.get(at..)?.first_chunk().map(|word| u32::from_be_bytes(*word))
+}
+
 /// A word of an image that a call accepted, so that it is there.
 fn word(image: &[u8], at: usize) -> Answer<u32> {
-    let word = image.get(at..).and_then(|rest| rest.first_chunk());
-    word.map(|word| u32::from_be_bytes(*word)).ok_or(Stop::Dirty("image: does not open"))
+    number_at(image, at).ok_or(Stop::Dirty("image: does not open"))
+}
+
+/// The sheet of the first lines of another; none where that has not so many, or is none.
+fn first_lines(sheet: &[u8], count: u32) -> Option<Vec<u8>> {
+    let [all, lines, texts, length] = [0, 4, 8, 12].map(|at| number_at(sheet, at));
+    let (lines, texts, length) = (lines? as usize, texts? as usize, length? as usize);
+    let size = SHEET_LINE_SIZE * count as usize;
+    let (lines, texts) = (sheet.get(lines..lines + size)?, sheet.get(texts..texts + length)?);
+    let words = [count, SHEET_HEADER_SIZE as u32, (SHEET_HEADER_SIZE + size) as u32, length as u32];
+    let header = words.map(u32::to_be_bytes);
+    (count <= all?).then(|| [header.as_flattened(), lines, texts].concat())
 }
 
 /// The least range outside of which the two are the same; they are as long as each other.
@@ -202,7 +247,8 @@ impl Lender {
     ) -> Answer<[T; N]> {
         let mut answer = Guarded::new(N);
         self.words.mark();
-        if does == Does::Edit {
+        let takes_bytes = matches!(does, Does::Edit | Does::Sheet);
+        if takes_bytes {
             self.bytes.mark();
         }
         self.before.clear();
@@ -210,12 +256,12 @@ impl Lender {
         let cause = run(self, answer.slots());
         hold(self.words.is_zero(), "words")?;
         hold(self.words.margins_stay(), "beside words")?;
-        if does == Does::Edit {
+        if takes_bytes {
             hold(self.bytes.is_zero(), "bytes")?;
         }
         hold(self.bytes.margins_stay(), "beside bytes")?;
         hold(self.image.margins_stay(), "beside image")?;
-        if does == Does::Look || cause != 0 {
+        if does == Does::Look || cause != 0 && does != Does::Sheet {
             hold(self.image.slice() == &self.before[..], "image")?;
         }
         answered(cause, &mut answer)
@@ -245,8 +291,20 @@ impl Lender {
         self.with_record(OfRecord::Moves, run)
     }
 
-    /// An edit with `N` slots for its answer, or a part of one. It takes the record in use, and the team; where
-    /// there is none, a fresh one of the image, in which team 0 may take anything, and this is dropped.
+    /// What an edit takes: the record in use, and the team; where there is none, a fresh one of the image, in which
+    /// team 0 may take anything. The first is this fresh one, or the number that the image is refused with.
+    fn taken(&mut self) -> Answer<(Result<Record, u32>, Record, u32)> {
+        let fresh = match self.fresh_record([u32::MAX; TEAMS], [0; TEAMS]) {
+            Err(Stop::Refused(number)) => Err(number),
+            made => Ok(made?),
+        };
+        let marked = Record::of([u32::MARK; RECORD_WORDS]);
+        let given = self.record.or(fresh.ok()).unwrap_or(marked);
+        let team = if self.record.is_some() { self.team } else { 0 };
+        Ok((fresh, given, team))
+    }
+
+    /// An edit with `N` slots for its answer, or a part of one. A fresh record that it took is dropped.
     fn with_record<const N: usize>(
         &mut self,
         of_record: OfRecord,
@@ -259,13 +317,7 @@ impl Lender {
             &mut [u32; N],
         ) -> u32,
     ) -> Answer<[u32; N]> {
-        let fresh = match self.fresh_record([u32::MAX; TEAMS], [0; TEAMS]) {
-            Err(Stop::Refused(number)) => Err(number),
-            made => Ok(made?),
-        };
-        let marked = Record::of([u32::MARK; RECORD_WORDS]);
-        let given = self.record.or(fresh.ok()).unwrap_or(marked);
-        let team = if self.record.is_some() { self.team } else { 0 };
+        let (fresh, given, team) = self.taken()?;
         let mut record = Guarded::of(&given.slots());
         let lent = &mut record;
         let result = self.call(Does::Edit, |lender, answer| {
@@ -753,6 +805,67 @@ impl Lender {
         hold(zeros.iter().all(|byte| *byte == 0), "zero: not zero")
     }
 
+    // An edit sheet -------------------------------------------------------------------------
+
+    /// The lines of a sheet. Where it is refused at one, image and record are those that the lines before it leave as
+    /// a sheet of their own, which all run.
+    pub fn sheet(&mut self, sheet: &[u8]) -> Answer<()> {
+        let (fresh, given, team) = self.taken()?;
+        let (lent, mut record) = (Guarded::of(sheet), Guarded::of(&given.slots()));
+        let mut line = Guarded::new(1);
+        let (read, taken, slot) = (lent.slice(), record.slots(), line.slots());
+        let result = self.call(Does::Sheet, |lender, _: &mut [u32; 0]| {
+            let (image, words) = (lender.image.slice_mut(), lender.words.slice_mut());
+            let bytes = lender.bytes.slice_mut();
+            unsafe {
+                call!(counter_sheet(
+                    mut image, mut words, mut bytes, = taken, = team, in read, = slot
+                ))
+            }
+        });
+        let number = match result {
+            Ok([]) => 0,
+            Err(Stop::Refused(number)) => number,
+            Err(stop) => return Err(stop),
+        };
+        let back = Record::of(*record.slots());
+        self.record = self.record.map(|_| back);
+        hold(record.margins_stay(), "beside record")?;
+        hold(lent.margins_stay() && lent.slice() == sheet, "sheet")?;
+        hold(line.margins_stay(), "beside line")?;
+        let [line] = *line.slots();
+        let count = number_at(sheet, 0).unwrap_or(0);
+        hold(line <= count && (line == 0 || number != 0), "line")?;
+        hold(line == 0 || number != 30, "line: of a sheet that is none")?;
+        let ran = if number == 0 { count } else { line.saturating_sub(1) };
+        let stays = self.image.slice() == &self.before[..];
+        hold(ran > 0 || stays, "image")?;
+        match fresh {
+            Ok(before) => {
+                let [used, largest] = self.totals_afresh()?;
+                let cost = i64::from(used) - i64::from(before.used);
+                hold(moved_along(given, back, (team, ran), cost, largest), "record")?;
+            }
+            Err(refused) => {
+                hold(number == 30 || number == refused, "record: refused with another number")?;
+                hold(line == 0 && back == given, "record")?;
+            }
+        }
+        if number != 0 && ran > 0 {
+            let first = first_lines(sheet, ran).ok_or(Stop::Dirty("line: in no sheet"))?;
+            let (mut image, mut record, mut line) = (self.before.clone(), given.slots(), [0; 1]);
+            let (mut words, mut bytes) = (vec![0; self.words.len()], vec![0; self.bytes.len()]);
+            let (i, r, l) = (&mut image, &mut record, &mut line);
+            let refused = unsafe {
+                call!(counter_sheet(mut i, mut words, mut bytes, = r, = team, in first, = l))
+            };
+            hold(refused == 0 && line == [0], "line: one before it does not run")?;
+            hold(self.image.slice() == image, "image: not as the lines before leave it")?;
+            hold(back == Record::of(record), "record: not as the lines before leave it")?;
+        }
+        if number == 0 { Ok(()) } else { Err(Stop::AtLine(number, line)) }
+    }
+
     // A new master --------------------------------------------------------------------------
 
     /// It takes no record. What is accepted opens, and the bytes behind its disc end stay.
@@ -830,6 +943,57 @@ mod tests {
         let free = [[2, 3], [6, 1]];
         assert!(is_free(&free, &(2..5)) && is_free(&free, &(6..7)));
         assert!(!is_free(&free, &(1..3)) && !is_free(&free, &(4..7)) && !is_free(&free, &(6..8)));
+    }
+
+    /// Along several edits what is taken may be more than their cost.
+    #[test]
+    fn a_record_moves_along() {
+        fn of(used: u32, largest: u32, taken: u32, edits: u32) -> Record {
+            let mut teams = [Team::default(); TEAMS];
+            teams[9] = Team { limit: 90, share: 8, taken, edits };
+            Record { used, largest, teams }
+        }
+        let given = of(50, 7, 10, 3);
+        let after = |used, taken, edits| of(used, 8, taken, edits);
+        let holds = |edits, cost, back| moved_along(given, back, (9, edits), cost, 8);
+        assert!(holds(0, 0, given) && !holds(0, 0, after(50, 10, 3)));
+        for (edits, cost, back, right) in [
+            (1, 6, after(56, 16, 4), true),
+            (1, 6, after(56, 17, 4), false),
+            (1, -12, after(38, 0, 4), true),
+            (2, 6, after(56, 16, 5), true),
+            (2, 6, after(56, 18, 5), true),
+            (2, 6, after(56, 15, 5), false),
+            (2, 6, after(56, 16, 4), false),
+            (2, 6, after(57, 16, 5), false),
+            (2, -12, after(38, 0, 5), true),
+            (2, -12, after(38, 2, 5), true),
+            (2, -8, after(42, 0, 5), false),
+        ] {
+            assert_eq!(holds(edits, cost, back), right, "{edits} {cost}");
+        }
+        let mut other = after(56, 16, 5);
+        other.teams[8].taken = 1;
+        assert!(!holds(2, 6, other));
+        assert!(moved_along(given, given, (16, 0), 0, 8));
+        assert!(!moved_along(given, given, (16, 1), 0, 7));
+        assert!(!moved_along(given, after(0, 0, 4), (9, 1), -51, 8));
+    }
+
+    /// The first lines of a sheet, wherever it has them.
+    #[test]
+    fn lines_that_stand_first() {
+        let bytes = |words: &[u32]| -> Vec<u8> {
+            words.iter().flat_map(|word| word.to_be_bytes()).collect()
+        };
+        let sheet = bytes(&[2, 20, 16, 4, 0x6100_6200, 3, 0, 7, 0, 4, 2, 0, 9]);
+        let first = bytes(&[1, 16, 32, 4, 3, 0, 7, 0, 0x6100_6200]);
+        assert_eq!(first_lines(&sheet, 1), Some(first));
+        let both = bytes(&[2, 16, 48, 4, 3, 0, 7, 0, 4, 2, 0, 9, 0x6100_6200]);
+        assert_eq!(first_lines(&sheet, 2), Some(both));
+        assert_eq!(first_lines(&sheet, 3), None);
+        assert_eq!(first_lines(&sheet[..51], 2), None);
+        assert_eq!(first_lines(&sheet[..15], 0), None);
     }
 
     /// Used bytes move as the image's, the team's taken bytes too, but to 0 at least; the others stay.

@@ -6,6 +6,8 @@ use counter_sys::{TEAMS, Team};
 pub enum Stop {
     /// Counter refused: the number of the cause.
     Refused(u32),
+    /// The same of a sheet, with the number of a line.
+    AtLine(u32, u32),
     /// A call left something in a state that it must not.
     Dirty(&'static str),
     /// The command line is wrong.

@@ -21,10 +21,12 @@
 //! - `move_copy N OFF`, `resize_copy N SIZE`: `ok`; the copy of `move` or `resize` alone. Nothing of the record moves;
 //! - `move_table N OFF`, `resize_table N SIZE`: `ok OFFSET SIZE`; the table of the same, and what is left to be
 //!   zeroed, `0 0` where nothing is;
-//! - `zero OFFSET SIZE`: `ok`; zeros there. It takes neither record nor team nor working bytes.
+//! - `zero OFFSET SIZE`: `ok`; zeros there. It takes neither record nor team nor working bytes;
+//! - `sheet HEX`: `ok` where all its lines ran, else `err N LINE`, LINE 0 or the line from 1. Image and record are then
+//!   those after the lines before it, with 0 and 1 as they were.
 //!
-//! Every edit hands in the record in use and keeps what comes back, from a refused call too; a copy and a table do
-//! as well. Where none is in use it hands in a fresh one of the image, with team 0 and limits that it cannot pass,
+//! Every edit hands in the record in use and keeps what comes back, from a refused call too; a copy, a table and a sheet
+//! do as well. Where none is in use it hands in a fresh one of the image, with team 0 and limits that it cannot pass,
 //! and drops it.
 //!
 //! A refusal is `err N` with the number of its cause. `dirty WHAT` means that a call left working

@@ -74,12 +74,14 @@ impl State {
             "move_copy" | "move_table" | "resize_copy" | "resize_table" | "zero" => {
                 self.part(command, words)
             }
+            "sheet" => self.sheet(words),
             "master" => self.master(words),
             _ => self.look(command, words),
         };
         match result {
             Ok(answer) => answer,
             Err(Stop::Refused(number)) => format!("err {number}"),
+            Err(Stop::AtLine(number, line)) => format!("err {number} {line}"),
             Err(Stop::Dirty(what)) => format!("dirty {what}"),
             Err(Stop::Usage(why)) => format!("usage {why}"),
         }
@@ -446,6 +448,15 @@ impl State {
                 return Ok(format!("ok {offset} {size}"));
             }
         }
+        Ok("ok".into())
+    }
+
+    // An edit sheet -------------------------------------------------------------------------
+
+    fn sheet(&mut self, mut words: Words) -> Answer<String> {
+        let sheet = words.named_bytes()?;
+        words.end()?;
+        self.lender.sheet(&sheet)?;
         Ok("ok".into())
     }
 

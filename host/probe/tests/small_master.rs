@@ -1,7 +1,7 @@
 //! The probe on the small master: its listing, P1 to P12, every refusal number once,
 //! free regions in clusters, a program behind the table or before it, lists of edits, files filled
-//! from given bytes, records, teams, the stated table maximum, new masters, edits in three calls, and calls with
-//! too little memory or too short a list.
+//! from given bytes, records, teams, the stated table maximum, new masters, edits in three calls, edit sheets, and calls
+//! with too little memory or too short a list.
 //! `dirty` is never an answer.
 
 use std::io::{Read, Write};
@@ -28,6 +28,25 @@ fn hex(bytes: &[u8]) -> String {
         return "-".into();
     }
     bytes.iter().map(|b| format!("{b:02x}")).collect()
+}
+
+/// A line of a sheet: its kind, path, new offset and new size.
+type Line<'a> = (u32, &'a [u8], u32, u32);
+
+fn words(words: &[u32]) -> Vec<u8> {
+    words.iter().flat_map(|word| word.to_be_bytes()).collect()
+}
+
+/// The command for a sheet with these lines, and behind them the path of each.
+fn sheet(lines: &[Line]) -> String {
+    let (mut numbers, mut texts) = (vec![], vec![]);
+    for (kind, path, offset, size) in lines {
+        numbers.extend([*kind, texts.len() as u32, *offset, *size]);
+        texts.extend([path, &[0][..]].concat());
+    }
+    let (count, length) = (lines.len() as u32, texts.len() as u32);
+    let header = words(&[count, 16, 16 + 16 * count, length]);
+    format!("sheet {}", hex(&[header, words(&numbers), texts].concat()))
 }
 
 /// The probe's answers to `commands`, whatever they are.
@@ -157,6 +176,7 @@ fn every_refusal() {
         (&["make_record - 0,6823", "rewrite"], "err 28"),
         (&["team 16", "rewrite"], "err 15"),
         (&["zero 0x500 1"], "err 29"),
+        (&["sheet -"], "err 30 0"),
     ]);
 }
 
@@ -443,6 +463,11 @@ fn usage() {
         ("master 0x44c 47434c45 1, -", "usage not a number"),
         ("master 0x44c 47434c45 1,,2 -", "usage not a number"),
         ("master 0x44c 47434c45 - 0", "usage odd hexadecimal"),
+        ("sheet", "usage a word is missing"),
+        ("sheet - -", "usage too many words"),
+        ("sheet 000", "usage odd hexadecimal"),
+        ("sheet 0x00", "usage not hexadecimal"),
+        ("sheets -", "usage no such command"),
     ];
     commands.extend(wrong.map(|(line, _)| line.into()));
     commands.extend(["hash", "record", "rewrite", "clusters"].map(String::from));
@@ -1213,6 +1238,25 @@ fn never_dirty() {
                 ],
                 _ => vec![],
             });
+            commands.extend(match random(6) {
+                0 => {
+                    let paths: [&[u8]; 6] = [b"a", b"b", b"", b"b/c", b"a/c", b"b\\c"];
+                    let lines: Vec<Line> = (0..random(5))
+                        .map(|_| {
+                            let path = paths[random(6) as usize];
+                            match random(40) {
+                                0..10 => (1, path, 0, 0),
+                                10..20 => (2, path, 0, 0),
+                                20..30 => (3, path, at as u32, 0),
+                                30..39 => (4, path, 0, random(0x400) as u32),
+                                _ => (5, path, 0, 0),
+                            }
+                        })
+                        .collect();
+                    Some(sheet(&lines))
+                }
+                _ => None,
+            });
             commands.push(match random(24) {
                 0 => format!("move {entry} {at}"),
                 1 => format!("resize {entry} {len}"),
@@ -1472,5 +1516,151 @@ fn spans_that_are_free() {
         (&["lend 15 0", "zero 0 0"], "err 9"),
         (&["zero 0 1"], "err 9"),
         (&["lend 65544 2097152"], "ok"),
+    ]);
+}
+
+/// One line on the small master; which number comes first.
+#[test]
+fn sheets_of_one_line() {
+    let cases: [(u32, &[u8], u32, u32, &str); 30] = [
+        (1, b"a/:", 0, 0, "err 13 1"),
+        (1, b"q/:", 0, 0, "err 18 1"),
+        (1, b"a/x", 0, 0, "err 17 1"),
+        (1, b"a//x", 0, 0, "err 17 1"),
+        (1, b"", 0, 0, "err 13 1"),
+        (1, b"a\\b", 0, 0, "err 13 1"),
+        (1, b"\x83/q", 0, 0, "err 18 1"),
+        (2, b"\x83\\", 0, 0, "ok"),
+        (4, b"", 0, 0, "err 16 1"),
+        // The cut is at the last `/` alone; what is before it is a lookup's, with `\`, `.`, `..` and empty parts.
+        (1, b"/", 0, 0, "err 13 1"),
+        (2, b"/b", 0, 0, "ok"),
+        (2, b"//./b", 0, 0, "ok"),
+        (2, b"./\\/b", 0, 0, "ok"),
+        (2, b"../b", 0, 0, "err 18 1"),
+        (2, b"a/../b", 0, 0, "err 17 1"),
+        (2, b"a\\../b", 0, 0, "err 17 1"),
+        (2, b"q\\../b", 0, 0, "err 18 1"),
+        (2, b"b/", 0, 0, "err 18 1"),
+        (2, b"a/", 0, 0, "err 13 1"),
+        (1, b"a", 0, 0, "err 19 1"),
+        (2, b"a", 0, 0, "err 19 1"),
+        (2, b"\x83", 0, 0, "err 12 1"),
+        (2, b"b\x83/", 0, 0, "err 18 1"),
+        (2, b"\x83\\/b", 0, 0, "err 18 1"),
+        (3, b"./a", 0x600, 0, "ok"),
+        (3, b"a/", 0x600, 0, "err 17 1"),
+        (3, b"q", 0x600, 0, "err 18 1"),
+        (3, b"a", 0x580, 0, "err 20 1"),
+        (4, b"\\a", 0, 0x1b00, "ok"),
+        (4, b"a", 0, 0x1b01, "err 21 1"),
+    ];
+    for (kind, path, offset, size, expected) in cases {
+        hold(&[(&[&sheet(&[(kind, path, offset, size)])], expected)]);
+    }
+    // A path of 1,024 bytes, and one more, whatever it leads to.
+    let long = |count: usize| [&[b'/'; 1023][..], &[b'a'; 3][..count]].concat();
+    for (kind, offset, size) in [(1, 0, 0), (2, 0, 0), (3, 0x600, 0), (4, 0, 1)] {
+        let of = |path: &[u8]| sheet(&[(kind, path, offset, size)]);
+        let known = if kind < 3 { "err 19 1" } else { "ok" };
+        hold(&[(&[&of(&long(1))], known)]);
+        hold(&[(&[&of(&long(2))], "err 9 1")]);
+        let bad = [&[b':'; 1024][..], b"/"].concat();
+        hold(&[(&[&of(&bad)], "err 9 1")]);
+        let refused = if kind < 3 { "err 13 1" } else { "err 18 1" };
+        hold(&[(&[&of(&bad[..1024])], refused)]);
+    }
+}
+
+/// What is 30, wherever it stands, and before anything else; and what is none.
+#[test]
+fn sheets_that_are_none() {
+    let of = |bytes: &[u8]| format!("sheet {}", hex(bytes));
+    let line =
+        |numbers: [u32; 4]| of(&[words(&[1, 16, 32, 2]), words(&numbers), b"a\0".into()].concat());
+    let mut cases = vec![
+        (of(&[0; 15]), "err 30 0"),
+        (of(&[0; 16]), "ok"),
+        (of(&words(&[0, 16, 16, 0])), "ok"),
+        (of(&words(&[0, 17, 16, 0])), "err 30 0"),
+        (of(&words(&[0, 16, 17, 0])), "err 30 0"),
+        (of(&words(&[0, 16, 15, 2])), "err 30 0"),
+        (of(&words(&[0, 16, 15, 1])), "ok"),
+        (of(&words(&[0, 0, 0xffff_ffff, 1])), "err 30 0"),
+        (of(&words(&[0, 0xffff_fff0, 0, 0])), "err 30 0"),
+        (of(&words(&[1 << 28, 0, 0, 0])), "err 30 0"),
+        (of(&words(&[0xffff_ffff, 0, 0, 0])), "err 30 0"),
+        (line([0, 0, 0, 0]), "err 30 0"),
+        (line([1, 0, 0, 0]), "err 19 1"),
+        (line([4, 0, 0, 0x100]), "ok"),
+        (line([5, 0, 0, 0]), "err 30 0"),
+        (line([0x0100_0000, 0, 0, 0]), "err 30 0"),
+        (line([1, 0, 1, 0]), "err 30 0"),
+        (line([2, 0, 0, 1]), "err 30 0"),
+        (line([3, 0, 0x600, 1]), "err 30 0"),
+        (line([4, 0, 1, 0x100]), "err 30 0"),
+        (line([4, 1, 0, 0x100]), "err 16 1"),
+        (line([4, 2, 0, 0x100]), "err 30 0"),
+        (line([4, 0xffff_ffff, 0, 0x100]), "err 30 0"),
+        // The second line of kind 5; whatever the first comes to.
+        (sheet(&[(1, b"x", 0, 0), (5, b"y", 0, 0)]), "err 30 0"),
+        (sheet(&[(1, b"a", 0, 0), (5, b"y", 0, 0)]), "err 30 0"),
+        // Lines from byte 12 on: its kind is the texts' length; from byte 16 on the line behind it.
+        (of(&words(&[1, 12, 12, 4, 2, 0, 0])), "err 16 1"),
+        (of(&[words(&[1, 12, 28, 2, 0, 0, 0]), b"b\0".into()].concat()), "ok"),
+        (of(&[words(&[1, 12, 28, 3, 0, 0x600, 0]), b"a\0x".into()].concat()), "ok"),
+        (of(&[words(&[1, 12, 28, 5, 0, 0, 0]), b"b\0\0\0\0".into()].concat()), "err 30 0"),
+    ];
+    let many = |count: usize| sheet(&vec![(4, &b"a"[..], 0, 0x100); count]);
+    cases.extend([(many(1024), "ok"), (many(1025), "err 30 0")]);
+    for (command, expected) in &cases {
+        hold(&[(&[command], expected)]);
+        // Before opening and the team, which are due of a sheet without lines too.
+        let (short, none) = (["lend 15 0", command], *expected == "err 30 0");
+        hold(&[(&short, if none { expected } else { "err 9 0" })]);
+        let other = [OPEN, "team 16", command];
+        hold(&[(&other, if none { expected } else { "err 15 0" })]);
+    }
+}
+
+/// Up to the refused line all has run, with one team and one record; without a record team and limits play no part.
+#[test]
+fn sheets_up_to_the_refused_line() {
+    let two = "sheet 000000020000001000000030000000040000000100000000000000000000000000000004000000020000000000000000\
+               78006200";
+    let lines: [Line; 3] = [(4, b"a", 0, 0x200), (2, b"b", 0, 0), (4, b"a", 0, 0x100)];
+    let all = sheet(&lines);
+    let listing = "ok d:0:0:3:2:2f f:1:1280:256:2f61 f:2:0:0:2f62";
+    hold(&[
+        (&[two], "err 18 2"),
+        (&[two, "list"], "ok d:0:0:3:2:2f f:1:1280:256:2f61 d:2:0:3:0:2f782f"),
+        (&[OPEN, two, "record"], "ok 1384 6656 4294967295:0:14:1 .."),
+        (&["drop_record", "team 16", two, "record"], "ok none"),
+        (&["team 16", OPEN, two, "record"], "ok 1370 6656 4294967295:0:0:0 .."),
+        (&["drop_record", two], "err 18 2"),
+        (&[&all, "list"], listing),
+        (&["make_record 270,14", "team 0", &all, "record"], "ok 1384 6656 270:0:14:3 14:0:0:0 .."),
+        // The limit falls in the first line, and in the second.
+        (&["make_record 255", &all], "err 27 1"),
+        (&["make_record 255", &all, "record"], "ok 1370 6656 255:0:0:0 .."),
+        (&["make_record 269", &all], "err 27 2"),
+        (&["make_record 269", &all, "record"], "ok 1626 6400 269:0:256:1 .."),
+        (&["make_record 269", &all, "list"], "ok d:0:0:2:1:2f f:1:1280:512:2f61"),
+        // The others' shares: 6,822 bytes are free at first.
+        (&["make_record 270 0,6566", &all], "err 28 2"),
+        (&["make_record 270 0,6567", &all], "err 28 1"),
+        (&["make_record 270 0,6552", &all], "ok"),
+        (&["make_record 270 0,6553", &all], "err 28 2"),
+        // Counts and used bytes.
+        (&["set_record 9 9 600:0:0:4294967294", &all], "err 25 2"),
+        (&["set_record 4294967040 9 600:0:0:0", &all], "err 25 1"),
+        (&["set_record 4294967026 9 600:0:0:0", &all], "err 25 2"),
+        (&["set_record 4294967025 9 600:0:0:0", &all], "ok"),
+        (&["drop_record", "patch 0x42c 0000001a", &all], "err 26 2"),
+        // Memory for two entries, and for three.
+        (&["lend 16 0x1a", &all], "err 9 2"),
+        (&["lend 20 0x27", &all], "err 9 2"),
+        (&["lend 20 0x28", &all], "ok"),
+        (&["lend 16 0x19", &all], "err 9 1"),
     ]);
 }

@@ -184,12 +184,23 @@ impl Stage {
             | "resize_table" => self.edit(name, filled(&numbers)?, &line.text, &mut lent)?,
             "zero" => self.zero(filled(&numbers)?, &mut lent)?,
             "make_record" => self.make_record(line, &mut lent)?,
+            "sheet" => self.sheet(&line.text, &mut lent)?,
             "fill_file" | "fill_zeros" => self.fill_file(name, &numbers, &line.text, &mut lent)?,
             "master" => self.master(&numbers, &line.text, &mut lent)?,
             _ => self.look(name, filled(&numbers)?, &line.text, &mut lent)?,
         };
         holds(lent.margins_stay(), "something beside what was lent was written")?;
         Ok(given)
+    }
+
+    /// The record of the image, or the number of its refusal; and what edits take: the record in use and the team, or
+    /// that fresh one and team 0.
+    fn taken(&self) -> Result<(Result<Record, u32>, Record, u32), String> {
+        let fresh = fresh_record(&self.image, self.words)?;
+        let marked = Record::of([u32::MARK; RECORD_WORDS]);
+        let taken = self.record.or(fresh.ok()).unwrap_or(marked);
+        let team = if self.record.is_some() { self.team } else { 0 };
+        Ok((fresh, taken, team))
     }
 
     fn edit(
@@ -199,10 +210,7 @@ impl Stage {
         text: &[u8],
         l: &mut Lent,
     ) -> Result<Given, String> {
-        let fresh = fresh_record(&self.image, self.words)?;
-        let marked = Record::of([u32::MARK; RECORD_WORDS]);
-        let taken = self.record.or(fresh.ok()).unwrap_or(marked);
-        let team = if self.record.is_some() { self.team } else { 0 };
+        let (fresh, taken, team) = self.taken()?;
         let mut record = Guarded::of(&taken.slots());
         let (image, words, bytes) = (l.image.slice_mut(), l.words.slice_mut(), l.bytes.slice_mut());
         // A call lent all three, with the record, the team and what else it takes.
@@ -332,6 +340,47 @@ impl Stage {
         let given = self.edit("fill_file", target, lent.slice(), l)?;
         holds(lent.margins_stay() && lent.slice() == clip, "the clip was written to")?;
         Ok(given)
+    }
+
+    /// The text is the sheet. What a refused one leaves of image and record is the script's to say, but for one that no
+    /// line of has run.
+    fn sheet(&mut self, text: &[u8], l: &mut Lent) -> Result<Given, String> {
+        let (fresh, taken, team) = self.taken()?;
+        let (mut record, sheet) = (Guarded::of(&taken.slots()), Guarded::of(text));
+        let mut line = Guarded::<u32>::new(1);
+        let (image, words, bytes) = (l.image.slice_mut(), l.words.slice_mut(), l.bytes.slice_mut());
+        let (of_team, read, slot) = (record.slots(), sheet.slice(), line.slots());
+        let number = unsafe {
+            call!(counter_sheet(
+                mut image, mut words, mut bytes, = of_team, = team, in read, = slot
+            ))
+        };
+        holds(l.words.is_zero() && l.bytes.is_zero(), "working memory is not zero")?;
+        holds(sheet.margins_stay() && sheet.slice() == text, "the sheet was written to")?;
+        holds(record.margins_stay(), "something beside the record was written")?;
+        holds(line.margins_stay(), "something beside the line was written")?;
+        let line = line.slice()[0];
+        holds(number != 0 || line == 0, "a line, and none was refused")?;
+        let given = Record::of(*record.slots());
+        let none_ran = number != 0 && line < 2;
+        holds(!none_ran || l.image.slice() == self.image, "a refusal changed the image")?;
+        holds(!none_ran || given == taken, "a refusal changed the record")?;
+        holds(
+            number == 30 || fresh.is_ok() || fresh == Err(number),
+            "the sheet and a record of the image are not refused alike",
+        )?;
+        self.image.copy_from_slice(l.image.slice());
+        let mut numbers = vec![u64::from(number), checksum(&self.image), u64::from(line)];
+        if self.record.is_some() {
+            numbers.extend(told(given));
+            self.record = Some(given);
+        } else if given != taken {
+            let mut wanted = fresh_record(&self.image, self.words)?
+                .map_err(|number| format!("the image is refused afterwards: {number}"))?;
+            wanted.teams[0] = given.teams[0];
+            holds(given == wanted, "the record is not the new image's")?;
+        }
+        Ok(Given { numbers, text: vec![] })
     }
 
     /// The numbers are the disc end, the game code and the sizes; the text is the paths, with the zero bytes
@@ -489,7 +538,7 @@ fn told(record: Record) -> Vec<u64> {
 fn arity(name: &str) -> usize {
     match name {
         "open" | "totals" | "program" | "entries" | "free_regions" | "free_clusters"
-        | "open_dol" | "header" | "rewrite" => 0,
+        | "open_dol" | "header" | "rewrite" | "sheet" => 0,
         "max_region_size" | "allocate" | "move_file" | "resize_file" | "fill_zeros"
         | "move_copy" | "move_table" | "resize_copy" | "resize_table" | "zero" => 2,
         _ => 1,

@@ -15,7 +15,7 @@ fn every_call_of_every_script() {
         assert!(outcome.differ.is_empty(), "{}", outcome.differ.join("\n"));
         calls += outcome.calls;
     }
-    assert_eq!(calls, 10763, "all of them, so that none is lost");
+    assert_eq!(calls, 11280, "all of them, so that none is lost");
 }
 
 /// A script that a program of this folder puts together is as it does.
@@ -39,6 +39,11 @@ fn records_of_teams_are_put_together() {
 #[test]
 fn edits_in_three_calls_are_put_together() {
     put_together("steps.py", "steps.txt");
+}
+
+#[test]
+fn edit_sheets_are_put_together() {
+    put_together("sheets.py", "sheets.txt");
 }
 
 const MASTER: &str =
@@ -102,6 +107,13 @@ fn right_answers_of_the_small_master() {
         "record 5 6 8:0:9:0\nmove_copy 1 0x600 = 27 0x203a64a4776abcd2 5 6 8:0:9:0",
         "team 16\nrecord 5 6\nmove_table 1 0x600 = 15 0x203a64a4776abcd2 5 6",
         "team 16\nrecord 5 6\nzero 0x600 1 = 0 0x203a64a4776abcd2",
+        // Sheets: none, one without lines, and one that stops at its second line.
+        "sheet \"\" = 30 0x203a64a4776abcd2 0",
+        "sheet :00000000000000100000001000000000 = 0 0x203a64a4776abcd2 0",
+        "team 16\nrecord 5 6\nsheet :00000000000000100000001000000000 = 15 0x203a64a4776abcd2 0 5 6",
+        "record 5 6 4:3:2:7\nsheet :000000020000001000000030000000040000000400000000000000000000010000000004000000020000000000000000 :61007800 = 18 0x203a64a4776abcd2 2 5 6656 4:3:2:8",
+        "sheet :000000020000001000000030000000040000000400000000000000000000010000000004000000020000000000000000 :61007800 = 18 0x203a64a4776abcd2 2",
+        "lend 15 0 0\nsheet :00000000000000100000001000000000 = 9 0x203a64a4776abcd2 0",
         // A new master, refused, and with no files.
         "master 0x44b 0 = 21 0x203a64a4776abcd2",
         "record 5 6\nmaster 0x2000 0 1 \"a\" = 8 0x203a64a4776abcd2",
@@ -154,6 +166,11 @@ fn a_wrong_answer_is_told() {
             "s:7: resize_table 1 0x100: gave 0x0 0x203a64a4776abcd2 0x0 0x0, has to give 0x0 0x203a64a4776abcd2 0x0 0x1",
         ),
         ("zero 1 = 0 0x203a64a4776abcd2", "s:7: zero 1: a number too many or too few"),
+        ("sheet 1 = 30 0x203a64a4776abcd2 0", "s:7: sheet 1: a number too many or too few"),
+        (
+            "sheet \"\" = 30 0x203a64a4776abcd2 1",
+            "s:7: sheet: gave 0x1e 0x203a64a4776abcd2 0x0, has to give 0x1e 0x203a64a4776abcd2 0x1",
+        ),
         ("make_record 1 2 3 = 0", "s:7: make_record 1 2 3: a number too many or too few"),
         ("make_record 1, = 0", "s:7: make_record 1,: `` is no number"),
         (

@@ -323,6 +323,20 @@ unsafe extern "C" {
         size: u32,
     ) -> u32;
 
+    pub fn counter_sheet(
+        image: *mut u8,
+        image_len: usize,
+        words: *mut u32,
+        words_len: usize,
+        bytes: *mut u8,
+        bytes_len: usize,
+        record: *mut [u32; RECORD_WORDS],
+        team: u32,
+        sheet: *const u8,
+        sheet_len: usize,
+        line: *mut [u32; 1],
+    ) -> u32;
+
     pub fn counter_master(
         image: *mut u8,
         image_len: usize,

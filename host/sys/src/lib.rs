@@ -1,6 +1,6 @@
 //! libcounter.a from Rust: the C functions (`ffi`), and beside each a call on slices.
 //!
-//! A call answers `Ok` or the number of the cause (1 to 29). Working memory is lent in a `Memory`;
+//! A call answers `Ok` or the number of the cause (1 to 30). Working memory is lent in a `Memory`;
 //! it is zero after every call, whatever it held.
 
 pub mod ffi;
@@ -106,6 +106,13 @@ pub struct Fault {
     pub about: About,
 }
 
+/// Where an edit sheet stopped: the number of the cause, and the line that is refused, from 1; 0 before the first.
+#[derive(Debug, Clone, Copy, PartialEq, Eq)]
+pub struct Stopped {
+    pub number: u32,
+    pub line: u32,
+}
+
 /// Words of one entry in the list that `entries` fills.
 pub const ENTRY_WORDS: usize = 6;
 
@@ -124,6 +131,10 @@ pub const DOL_WORDS: usize = 57;
 /// Bytes of a disc header.
 pub const HEADER_SIZE: usize = 0x440;
 
+/// Bytes of an edit sheet's header, and of each of its lines.
+pub const SHEET_HEADER_SIZE: usize = 16;
+pub const SHEET_LINE_SIZE: usize = 16;
+
 /// Bytes of a cluster.
 pub const CLUSTER_SIZE: u32 = 0x8000;
 
@@ -131,8 +142,10 @@ pub const CLUSTER_SIZE: u32 = 0x8000;
 pub const MOST_ENTRIES: usize = 16_384;
 pub const MOST_TEXT: usize = 1_048_576;
 pub const MOST_LEVELS: usize = 64;
-/// Bytes of a path that is passed in.
+/// Bytes of a path that is passed in, or that a sheet's line has.
 pub const MOST_PATH: usize = 1_024;
+/// Lines of an edit sheet.
+pub const MOST_LINES: usize = 1_024;
 
 /// What an image within them wants to be lent at most.
 pub const MOST_REGIONS: usize = MOST_ENTRIES + 1;
@@ -631,6 +644,26 @@ pub fn resize_table(
 /// The zeros: over the span, if every byte of it is free. An empty one may lie anywhere.
 pub fn zero(image: &mut [u8], words: &mut [u32], span: Region) -> Answer<()> {
     told(unsafe { call!(counter_zero(mut image, mut words, = span.offset, = span.size)) })
+}
+
+// An edit sheet ---------------------------------------------------------------------------
+
+/// Runs the lines of a sheet in order, up to the first that is refused. Image and record are those after the lines
+/// before that one.
+pub fn sheet(
+    image: &mut [u8],
+    memory: &mut Memory,
+    record: &mut Record,
+    team: u32,
+    sheet: &[u8],
+) -> Result<(), Stopped> {
+    let mut line = [0; 1];
+    let run = record.through(|r| unsafe {
+        call!(counter_sheet(
+            mut image, mut memory.words, mut memory.bytes, = r, = team, in sheet, = &mut line
+        ))
+    });
+    run.map_err(|number| Stopped { number, line: line[0] })
 }
 
 // A new master ----------------------------------------------------------------------------

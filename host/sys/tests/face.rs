@@ -2,7 +2,7 @@
 //! program's region; an image with nothing in it.
 
 use counter_sys::guarded::Guarded;
-use counter_sys::{Entry, Memory, Opened, Record, Region, TEAMS, Team, Window, call};
+use counter_sys::{Entry, Memory, Opened, Record, Region, Stopped, TEAMS, Team, Window, call};
 use std::array;
 
 /// The small master.
@@ -18,6 +18,22 @@ fn small_master() -> Vec<u8> {
 
 fn put(image: &mut [u8], at: usize, bytes: &[u8]) {
     image[at..at + bytes.len()].copy_from_slice(bytes);
+}
+
+/// A line of a sheet: its kind, path, new offset and new size.
+type Line<'a> = (u32, &'a [u8], u32, u32);
+
+/// A sheet: the header, the lines, and each line's path behind them, in their order.
+fn sheet_of(lines: &[Line]) -> Vec<u8> {
+    let (mut numbers, mut texts) = (vec![], vec![]);
+    for (kind, path, offset, size) in lines {
+        numbers.extend([*kind, texts.len() as u32, *offset, *size]);
+        texts.extend([path, &[0][..]].concat());
+    }
+    let count = lines.len() as u32;
+    let header = [count, 16, 16 + 16 * count, texts.len() as u32];
+    let words = header.into_iter().chain(numbers).flat_map(u32::to_be_bytes);
+    words.chain(texts).collect()
 }
 
 /// The team that edits carry where nothing else is said.
@@ -147,6 +163,19 @@ fn the_calls_on_slices() {
     assert_eq!(counter_sys::zero(&mut image, m.words, left), Ok(()));
     assert_eq!((&image[0x600..0x608], &image[0x700..0x708]), (&[0; 8][..], &b"the clip"[..]));
     assert_eq!(counter_sys::zero(&mut image, m.words, Region { size: 0x101, ..left }), Err(29));
+    let stopped = |number, line| Err(Stopped { number, line });
+    let lines = sheet_of(&[(2, b"c", 0, 0)]);
+    assert_eq!(counter_sys::sheet(&mut image, m, r, TEAM, &lines), stopped(19, 1));
+    assert_eq!(*r, after(1370 + 42, 0x1800, 0xf8, 9));
+    let lines = sheet_of(&[(4, b"a", 0, 0x10), (3, b"c/../a", 0x800, 0), (4, b"b", 0, 1)]);
+    assert_eq!(counter_sys::sheet(&mut image, m, r, TEAM, &lines), stopped(21, 3));
+    assert_eq!(*r, after(1370 + 42 - 0xf0, 0x17f0, 8, 11));
+    assert_eq!((&image[0x700..0x708], &image[0x800..0x808]), (&[0; 8][..], &b"the clip"[..]));
+    assert_eq!(counter_sys::sheet(&mut image, m, r, TEAM, &lines[..15]), stopped(30, 0));
+    assert_eq!(*r, after(1370 + 42 - 0xf0, 0x17f0, 8, 11));
+    let lines = sheet_of(&[(4, b"a", 0, 0)]);
+    assert_eq!(counter_sys::sheet(&mut image, m, r, TEAM, &lines), Ok(()));
+    assert_eq!(*r, after(1370 + 42 - 0x100, 0x1b7c, 0, 12));
     assert!(words == [0; 28] && bytes == [0; 68]);
 }
 
@@ -266,6 +295,25 @@ fn no_name_and_no_argument_is_taken_for_another() {
     });
     let path = path.unwrap();
     assert_eq!((word(&path, 0x458), word(&path, 0x464)), (vec![1, 0, 0, 2], vec![1, 0, 0, 4]));
+    // Kinds, and a line's offset and size.
+    let mut run = |lines: &[Line]| {
+        let (mut run, mut back) = (image.clone(), record(1370, 0, 0, 7));
+        let answer = counter_sys::sheet(&mut run, m, &mut back, TEAM, &sheet_of(lines));
+        let edits = 7 + if answer.is_ok() { lines.len() as u32 } else { 0 };
+        assert_eq!(back.teams[TEAM as usize].edits, edits);
+        answer.map(|()| run)
+    };
+    let made = run(&[(1, b"b", 0, 0)]).unwrap();
+    assert_eq!(word(&made, 0x458), [1, 0, 0, 2]);
+    let made = run(&[(2, b"b", 0, 0)]).unwrap();
+    assert_eq!(word(&made, 0x458), [0, 0, 0, 2]);
+    let made = run(&[(3, b"a", 0x800, 0)]).unwrap();
+    assert_eq!((word(&made, 0x450), word(&made, 0x454)), (vec![0, 0, 8, 0], vec![0, 0, 1, 0]));
+    let made = run(&[(4, b"a", 0, 0x80)]).unwrap();
+    assert_eq!((word(&made, 0x450), word(&made, 0x454)), (vec![0, 0, 5, 0], vec![0, 0, 0, 0x80]));
+    for (kind, offset, size) in [(1, 1, 0), (2, 0, 1), (3, 0, 0x800), (4, 0x80, 0)] {
+        assert_eq!(run(&[(kind, b"a", offset, size)]), Err(Stopped { number: 30, line: 0 }));
+    }
     // A rewrite, and a clip as long as the file.
     assert_eq!(edited(&mut |image, r| counter_sys::rewrite(image, m, r, TEAM)), Ok(image.clone()));
     let filled = edited(&mut |image, r| counter_sys::fill_file(image, m, r, TEAM, 1, &[7; 0x100]));
@@ -761,6 +809,126 @@ fn parts_are_refused_as_the_single_edit() {
     assert_eq!([parts.copy(false, 1, 0x100), parts.table(false, 1, 0x100)], [0, 0]);
 }
 
+/// A sheet on the small master, with everything lent between margins. The number and the line; image and record are
+/// those that come back.
+fn run_between_margins(
+    image: &mut Vec<u8>,
+    record: &mut Record,
+    team: u32,
+    lent: [usize; 2],
+    sheet: &[u8],
+) -> (u32, u32) {
+    let (mut i, mut r, mut s) =
+        (Guarded::of(image), Guarded::of(&record.slots()), Guarded::of(sheet));
+    let (mut w, mut b, mut line) =
+        (Guarded::<u32>::new(lent[0]), Guarded::<u8>::new(lent[1]), Guarded::<u32>::new(1));
+    let (image_lent, words, bytes) = (i.slice_mut(), w.slice_mut(), b.slice_mut());
+    let (record_lent, read, slot) = (r.slots(), s.slice_mut(), line.slots());
+    let number = unsafe {
+        call!(counter_sheet(
+            mut image_lent, mut words, mut bytes, = record_lent, = team, in read, = slot
+        ))
+    };
+    assert!(w.is_zero() && b.is_zero());
+    assert!(w.margins_stay() && b.margins_stay() && i.margins_stay());
+    assert!(r.margins_stay() && line.margins_stay());
+    assert!(s.margins_stay() && s.slice() == sheet);
+    *image = i.slice().to_vec();
+    *record = Record::of(*r.slots());
+    (number, line.slice()[0])
+}
+
+/// A refusal before the lines leaves image and record, and the line is then 0; a later one leaves what the lines
+/// before it made of both.
+#[test]
+fn sheets_up_to_the_refused_line() {
+    let given = record(5000, 3, 300, 8);
+    let run = |team, lent, sheet: &[u8]| {
+        let (mut image, mut record) = (small_master(), given);
+        let told = run_between_margins(&mut image, &mut record, team, lent, sheet);
+        (told, image, record)
+    };
+    let stays = |team, lent, sheet: &[u8]| {
+        let (told, image, record) = run(team, lent, sheet);
+        assert!(image == small_master() && record == given, "{told:?}");
+        told
+    };
+    let lines: [Line; 4] =
+        [(1, b"d", 0, 0), (2, b"d/f", 0, 0), (3, b"d/../a", 0x800, 0), (4, b"q", 0, 7)];
+    let (ample, sheet) = ([64, 100], sheet_of(&lines));
+    // 30 before opening, opening before the team, both before the first line.
+    assert_eq!(stays(TEAM, ample, &sheet[..15]), (30, 0));
+    assert_eq!(stays(16, [0, 0], &sheet[..sheet.len() - 1]), (30, 0));
+    assert_eq!(stays(16, [15, 0], &sheet), (9, 0));
+    assert_eq!(stays(16, [16, 0], &sheet), (15, 0));
+    assert_eq!(stays(TEAM, [16, 0], &sheet), (9, 1));
+    assert_eq!(stays(TEAM, [15, 0], &sheet_of(&[])), (9, 0));
+    assert_eq!(stays(16, [16, 0], &sheet_of(&[])), (15, 0));
+    assert_eq!(stays(TEAM, [16, 0], &sheet_of(&[])), (0, 0));
+    // Each line by the single call, on what the lines before it left.
+    let (mut image, mut back) = (small_master(), given);
+    let (mut words, mut bytes) = ([9; 64], [9; 100]);
+    let m = &mut Memory { words: &mut words, bytes: &mut bytes };
+    for (k, line) in lines.iter().enumerate() {
+        let of = |count| run(TEAM, ample, &sheet_of(&lines[..count]));
+        assert_eq!(of(k), ((0, 0), image.clone(), back));
+        let (i, r) = (&mut image, &mut back);
+        let number = match k {
+            0 => counter_sys::insert_directory(i, m, r, TEAM, 0, b"d").map(|_| ()),
+            1 => counter_sys::insert_file(i, m, r, TEAM, 2, b"f").map(|_| ()),
+            2 => counter_sys::move_file(i, m, r, TEAM, 1, line.2),
+            _ => counter_sys::lookup(i, m, 0, line.1).map(|_| ()),
+        };
+        let told = number.map_or_else(|number| (number, k as u32 + 1), |()| (0, 0));
+        assert_eq!(of(k + 1), (told, image.clone(), back));
+    }
+    // The record's tests are each line's own: room for one more edit, then for two.
+    for (edits, line) in [(u32::MAX, 1), (u32::MAX - 1, 2), (u32::MAX - 2, 3)] {
+        let mut back = given;
+        back.teams[TEAM as usize].edits = edits;
+        let told = run_between_margins(&mut small_master(), &mut back, TEAM, ample, &sheet);
+        assert_eq!((told, back.teams[TEAM as usize].edits), ((25, line), u32::MAX));
+    }
+}
+
+/// Header, lines and texts may overlap, and only a path that a line has must be ended.
+#[test]
+fn where_a_sheet_lies() {
+    let told = |sheet: &[u8]| {
+        let (mut image, mut record) = (small_master(), record(5000, 3, 300, 8));
+        run_between_margins(&mut image, &mut record, TEAM, [64, 100], sheet)
+    };
+    let bytes = |words: &[u32]| -> Vec<u8> { words.iter().flat_map(|w| w.to_be_bytes()).collect() };
+    // A line from byte 12 on: its kind is the texts' length, and its path, an empty one, stands in that number too.
+    assert_eq!(told(&bytes(&[1, 12, 12, 4, 2, 0, 0])), (16, 1));
+    // From byte 0 on: of kind 1 its path has no byte, of kind 4 it begins in the number of lines.
+    assert_eq!(told(&bytes(&[1, 0, 0, 0])), (30, 0));
+    let more = [4, 0, 0, 0x100].repeat(3);
+    assert_eq!(told(&bytes(&[&[4, 0, 0, 64][..], &more].concat())), (16, 1));
+    // Texts that nobody ended are no line's.
+    let mut sheet = sheet_of(&[(4, b"a", 0, 0x100)]);
+    assert_eq!(told(&sheet), (0, 0));
+    sheet.push(b'x');
+    sheet[15] += 1;
+    assert_eq!(told(&sheet), (0, 0));
+    // The offset of the last zero byte, and of the byte behind it.
+    sheet[23] = 1;
+    assert_eq!(told(&sheet), (16, 1));
+    sheet[23] = 2;
+    assert_eq!(told(&sheet), (30, 0));
+    // Ends that fit, and ends a byte behind; 2^28 lines, whose bytes would wrap to none.
+    assert_eq!(told(&bytes(&[0, 16, 16, 0])), (0, 0));
+    assert_eq!(told(&bytes(&[0, 17, 16, 0])), (30, 0));
+    assert_eq!(told(&bytes(&[0, 16, 17, 0])), (30, 0));
+    assert_eq!(told(&bytes(&[0, 16, 16, 1])), (30, 0));
+    assert_eq!(told(&bytes(&[0, 0, u32::MAX, 17])), (30, 0));
+    assert_eq!(told(&bytes(&[1 << 28, 0, 0, 16])), (30, 0));
+    // As many lines as there may be, and one more, all of them one line.
+    let many = |count: usize| vec![(4, &b"a"[..], 0, 0x100); count];
+    assert_eq!(told(&sheet_of(&many(counter_sys::MOST_LINES))), (0, 0));
+    assert_eq!(told(&sheet_of(&many(counter_sys::MOST_LINES + 1))), (30, 0));
+}
+
 /// The header's word at 0x42c bounds the table that an edit writes; 0 does not. The small master's has 26 bytes,
 /// with an entry called `b` 40.
 #[test]
@@ -896,6 +1064,13 @@ fn an_empty_image() {
     for (offset, size) in [(0, 0), (0, 1), (u32::MAX, 0), (u32::MAX, u32::MAX)] {
         assert_eq!(counter_sys::zero(&mut image, m.words, Region { offset, size }), Err(1));
     }
+    for lines in [&[][..], &[(4, &[b'/'; 1025][..], 0, 0)]] {
+        let stopped = Err(Stopped { number: 1, line: 0 });
+        assert_eq!(counter_sys::sheet(&mut image, m, r, 16, &sheet_of(lines)), stopped);
+    }
+    // But for a sheet that is none.
+    let stopped = Err(Stopped { number: 30, line: 0 });
+    assert_eq!(counter_sys::sheet(&mut image, m, r, 16, &[]), stopped);
     assert_eq!(*r, record(7, 8, 9, 10));
     assert_eq!((words, bytes), ([0; 2], [0; 2]));
 }

@@ -220,7 +220,7 @@ fn entry(r: &mut Random, tree: Option<&Tree>) -> u32 {
 }
 
 /// Mostly a file if `directory` is false, mostly a directory otherwise.
-fn entry_of(r: &mut Random, tree: &Tree, directory: bool) -> u32 {
+pub fn entry_of(r: &mut Random, tree: &Tree, directory: bool) -> u32 {
     let some: Vec<usize> =
         (0..tree.entries.len()).filter(|k| tree.entries[*k].directory == directory).collect();
     if some.is_empty() || r.chance(8) { entry(r, Some(tree)) } else { *r.pick(&some) as u32 }
@@ -326,6 +326,12 @@ pub fn path(r: &mut Random, tree: Option<&Tree>, start: u32, lookup: bool) -> Ve
             break;
         }
     }
+    written(r, parts)
+}
+
+/// A path of these components, with detours; sometimes with a byte that is another, or with as many bytes as a path may
+/// have.
+pub fn written(r: &mut Random, mut parts: Vec<Vec<u8>>) -> Vec<u8> {
     // Detours.
     let mut i = 0;
     while i < parts.len() {
@@ -376,7 +382,7 @@ fn fitting(r: &mut Random, tree: &Tree) -> Option<usize> {
     Some(length.checked_sub(1)? as usize).filter(|length| (1..0x900).contains(length))
 }
 
-fn name(r: &mut Random, tree: &Tree) -> Vec<u8> {
+pub fn name(r: &mut Random, tree: &Tree) -> Vec<u8> {
     match r.below(20) {
         0 | 1 => r.pick(&PARTS).to_vec(),
         2 => tree.entries[r.below(tree.entries.len())].name.clone(),

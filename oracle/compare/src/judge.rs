@@ -349,12 +349,12 @@ impl New {
     }
 
     /// 9, by the tree's limits or by the memory lent.
-    fn past_limits(&self, given: &Given) -> bool {
-        self.entries > rules::ENTRIES
-            || self.texts > rules::TEXTS
-            || self.depth > rules::DEPTH
-            || given.words < 4 * (self.entries + 2)
-            || (given.bytes as u64) < self.size()
+    pub fn past_limits(&self, words: usize, bytes: usize) -> bool {
+        self.past_tree_limits() || words < 4 * (self.entries + 2) || (bytes as u64) < self.size()
+    }
+
+    pub fn past_tree_limits(&self) -> bool {
+        self.entries > rules::ENTRIES || self.texts > rules::TEXTS || self.depth > rules::DEPTH
     }
 }
 
@@ -471,7 +471,7 @@ fn judge_beside_program(tree: &Tree, given: &Given, answer: &str) -> Result<Verd
         return same(told);
     }
     let new = New::of(tree, given.call).ok_or("a path with trouble, and accepted or 21")?;
-    if place.is_some() && new.past_limits(given) {
+    if place.is_some() && new.past_limits(given.words, given.bytes) {
         return Ok(Verdict { expected: refused(9), class: Some(Class::Limits) });
     }
     let fits = new.size() <= tree.most(tree.fst_offset, tree.fst_size);
@@ -502,7 +502,7 @@ fn judge_edit(tree: &Tree, given: &Given, answer: &str) -> Result<Verdict, Strin
     }
     if told.starts_with("ok") {
         let new = New::of(tree, given.call).ok_or("accepted along a path with trouble")?;
-        return if new.past_limits(given) { limits() } else { same(told) };
+        return if new.past_limits(given.words, given.bytes) { limits() } else { same(told) };
     }
     if told == "err 21" && new_place(tree, given.call).is_none() {
         if answer.ends_with("changed") {
@@ -525,7 +525,7 @@ fn judge_edit(tree: &Tree, given: &Given, answer: &str) -> Result<Verdict, Strin
         if !fits || size == 0 || tree.fst_offset + new.size() <= offset {
             return Err("a panic that is on no list".into());
         }
-        if new.past_limits(given) {
+        if new.past_limits(given.words, given.bytes) {
             return limits();
         }
         return Ok(Verdict { expected: refused(21), class: Some(Class::TableOverFile) });
@@ -533,7 +533,7 @@ fn judge_edit(tree: &Tree, given: &Given, answer: &str) -> Result<Verdict, Strin
     if fits {
         return Err("no space, though place and table have it".into());
     }
-    if new.past_limits(given) {
+    if new.past_limits(given.words, given.bytes) {
         return limits();
     }
     let class = answer.ends_with("changed").then_some(Class::HalfDone);

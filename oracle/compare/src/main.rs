@@ -20,6 +20,8 @@ mod records;
 mod rules;
 mod run;
 mod sample;
+mod sheet_rules;
+mod sheets;
 mod step_rules;
 mod steps;
 mod suites;
@@ -33,9 +35,9 @@ use sample::Sample;
 use std::process::exit;
 use std::time::Instant;
 
-const SUITES: [&str; 14] = [
-    "limits", "numbers", "fills", "records", "teams", "steps", "pairs", "maxima", "programs",
-    "names", "tables", "trees", "wishes", "random",
+const SUITES: [&str; 15] = [
+    "limits", "numbers", "fills", "records", "teams", "steps", "sheets", "pairs", "maxima",
+    "programs", "names", "tables", "trees", "wishes", "random",
 ];
 
 struct Options {
@@ -196,6 +198,7 @@ fn main() {
             "records" => records::records(&mut run),
             "teams" => teams::teams(&mut run, options.seed, options.images),
             "steps" => steps::steps(&mut run, options.seed, options.images),
+            "sheets" => sheets::sheets(&mut run, options.seed, options.images),
             "pairs" => pairs::pairs(&mut run, options.seed, options.images),
             "maxima" => maxima::maxima(&mut run),
             "programs" => programs::programs(&mut run),

@@ -43,6 +43,15 @@ pub fn encode(entries: &[Entry]) -> Vec<u8> {
     [records, texts].concat()
 }
 
+/// The image of this tree with another table, and no byte of the old one behind it.
+pub fn with_table(tree: &Tree, image: &[u8], table: &[u8]) -> Vec<u8> {
+    let mut after = image.to_vec();
+    after[bytes((tree.fst_offset, tree.fst_size))].fill(0);
+    after[bytes((tree.fst_offset, table.len() as u64))].copy_from_slice(table);
+    set_word(&mut after, FST_SIZE.start, table.len() as u32);
+    after
+}
+
 impl Parts {
     pub fn of(tree: &Tree, call: &Call) -> Option<Self> {
         let file = call.target()? as usize;
@@ -97,12 +106,17 @@ impl Parts {
 
     /// The image behind the table, which is written into this one.
     pub fn tabled(&self, tree: &Tree, image: &[u8]) -> Vec<u8> {
-        let mut after = image.to_vec();
-        if let Some(table) = &self.table {
-            after[bytes((tree.fst_offset, tree.fst_size))].fill(0);
-            after[bytes((tree.fst_offset, table.len() as u64))].copy_from_slice(table);
-            set_word(&mut after, FST_SIZE.start, table.len() as u32);
+        match &self.table {
+            Some(table) => with_table(tree, image, table),
+            None => image.to_vec(),
         }
+    }
+
+    /// The image behind the whole edit.
+    pub fn whole(&self, tree: &Tree, image: &[u8]) -> Vec<u8> {
+        let mut after = self.tabled(tree, &self.copied(image));
+        let (offset, size) = self.span();
+        after[bytes((offset as u64, size as u64))].fill(0);
         after
     }
 

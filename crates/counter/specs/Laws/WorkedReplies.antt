@@ -1,7 +1,7 @@
 -- One reply of each kind, by computing: every slot holds a number of its own, in the order that host/include/counter.h gives them, so that the
 -- order is said twice. Assumes nothing.
 use Rattle.std.specs.Prelude.{Some, None, Ok, Err, ℕ, zero, suc, ◌+◌, ◌≡◌, refl, List, [], ◌∷◌}
-use Rattle.refusal.specs.declared.Refusal.TheVariants.{LimitOrMemory, InvalidNameByte, NoSuchEntry, ExpectedFile, NotFound, NotEnoughSpace, InvalidSeek, InvalidDol, TotalsOutOfRange, OverlappingRegions}
+use Rattle.refusal.specs.declared.Refusal.TheVariants.{LimitOrMemory, InvalidNameByte, NoSuchEntry, ExpectedFile, NotFound, NotEnoughSpace, InvalidSeek, InvalidDol, TotalsOutOfRange, OverlappingRegions, InvalidSheet}
 use Rattle.tree.specs.declared.Entry.TheVariants.{File, Directory}
 use Rattle.tree.specs.declared.Found.TheVariants as found
 use Rattle.executable.specs.declared.dol.DolHeader.{DolHeader}
@@ -10,7 +10,7 @@ use Rattle.totals.specs.declared.Totals.{Totals}
 use Rattle.window.specs.declared.Window.{Window}
 use Rattle.opened.specs.declared.faults.Owner.TheVariants as owner
 use Rattle.opened.specs.declared.faults.About.TheVariants as about
-use Rattle.counter.specs.Replies.{reply, accepted_reply, reply_of, fault_words, disc_words, disc_totals_words, region_words, one_word, window_in, window_words, totals_words, unit_words, dol_words, program_reply, found_reply, dol_reply, dol_window_reply, done_number, entry_reply, span_reply}
+use Rattle.counter.specs.Replies.{reply, accepted_reply, reply_of, fault_words, disc_words, disc_totals_words, region_words, one_word, window_in, window_words, totals_words, unit_words, dol_words, program_reply, found_reply, dol_reply, dol_window_reply, done_number, entry_reply, span_reply, sheet_reply}
 
 -- slots as they were before the call
 abbrev old : List ℕ
@@ -137,3 +137,10 @@ span-slots = (refl, refl)
 -- "Every function returns 0 where it is accepted, and else the number of the first test that failed"
 done-number : (done_number (Ok tt) 1 ≡ 0) × (done_number (Err NotEnoughSpace) 1 ≡ 21)
 done-number = (refl, refl)
+
+-- "line[1] ..: the number of that line, from 1; 0 where all ran, and for a refusal before the first."
+sheet-slots :
+    (sheet_reply (Ok tt) ≡ reply 0 (0 ∷ [])) ×
+    (sheet_reply (Err (record { line = 2; cause = NotFound })) ≡ reply 18 (2 ∷ [])) ×
+    (sheet_reply (Err (record { line = 0; cause = InvalidSheet })) ≡ reply 30 (0 ∷ []))
+sheet-slots = (refl, refl, refl)

@@ -4,7 +4,7 @@ use Rattle.refusal.specs.Refusal.{Verdict}
 use Rattle.std.specs.Prelude.{ℕ, ◌≡◌, refl, Bool, true, false, List, [], ◌∷◌, get_or}
 use Rattle.std.proofs.Common.{sym, ap, ◌∙◌, arith}
 use Rattle.refusal.specs.declared.Refusal.{Refusal}
-use Rattle.refusal.specs.declared.Refusal.TheVariants.{HeaderPastImage, WiiNotSupported, InvalidMagic, InvalidBounds, EntryPastTable, UnrecognizedKind, RootIsNotDirectory, MissingNullTerminator, LimitOrMemory, InvalidNextIndex, InvalidNameOffset, InvalidNameByte, UnsafeName, OverlappingRegions, NoSuchEntry, ExpectedFile, ExpectedDirectory, NotFound, AlreadyExists, OverlappingMove, NotEnoughSpace, InvalidAlignment, InvalidSeek, InvalidDol, TotalsOutOfRange, TableAboveMaximum, TakenAboveLimit, FreeBelowShares, SpanNotFree}
+use Rattle.refusal.specs.declared.Refusal.TheVariants.{HeaderPastImage, WiiNotSupported, InvalidMagic, InvalidBounds, EntryPastTable, UnrecognizedKind, RootIsNotDirectory, MissingNullTerminator, LimitOrMemory, InvalidNextIndex, InvalidNameOffset, InvalidNameByte, UnsafeName, OverlappingRegions, NoSuchEntry, ExpectedFile, ExpectedDirectory, NotFound, AlreadyExists, OverlappingMove, NotEnoughSpace, InvalidAlignment, InvalidSeek, InvalidDol, TotalsOutOfRange, TableAboveMaximum, TakenAboveLimit, FreeBelowShares, SpanNotFree, InvalidSheet}
 use Rattle.refusal.specs.Refusal.{number_of, refuse, first}
 
 -- a chain that passes: its first test fails to hold, and the later tests pass
@@ -31,7 +31,7 @@ not-refused (Err c) e = let z : ◌≡◌ {A = ℕ} 0 1 = cc in absurd (omega ar
 
 -- the causes in the order of their numbers, with a first element for number 0, which is none
 abbrev causes : List Refusal
-causes = HeaderPastImage ∷ HeaderPastImage ∷ WiiNotSupported ∷ InvalidMagic ∷ InvalidBounds ∷ EntryPastTable ∷ UnrecognizedKind ∷ RootIsNotDirectory ∷ MissingNullTerminator ∷ LimitOrMemory ∷ InvalidNextIndex ∷ InvalidNameOffset ∷ InvalidNameByte ∷ UnsafeName ∷ OverlappingRegions ∷ NoSuchEntry ∷ ExpectedFile ∷ ExpectedDirectory ∷ NotFound ∷ AlreadyExists ∷ OverlappingMove ∷ NotEnoughSpace ∷ InvalidAlignment ∷ InvalidSeek ∷ InvalidDol ∷ TotalsOutOfRange ∷ TableAboveMaximum ∷ TakenAboveLimit ∷ FreeBelowShares ∷ SpanNotFree ∷ []
+causes = HeaderPastImage ∷ HeaderPastImage ∷ WiiNotSupported ∷ InvalidMagic ∷ InvalidBounds ∷ EntryPastTable ∷ UnrecognizedKind ∷ RootIsNotDirectory ∷ MissingNullTerminator ∷ LimitOrMemory ∷ InvalidNextIndex ∷ InvalidNameOffset ∷ InvalidNameByte ∷ UnsafeName ∷ OverlappingRegions ∷ NoSuchEntry ∷ ExpectedFile ∷ ExpectedDirectory ∷ NotFound ∷ AlreadyExists ∷ OverlappingMove ∷ NotEnoughSpace ∷ InvalidAlignment ∷ InvalidSeek ∷ InvalidDol ∷ TotalsOutOfRange ∷ TableAboveMaximum ∷ TakenAboveLimit ∷ FreeBelowShares ∷ SpanNotFree ∷ InvalidSheet ∷ []
 
 numbered : (c : Refusal) → get_or causes (number_of c) HeaderPastImage ≡ c
 numbered HeaderPastImage = refl
@@ -63,6 +63,7 @@ numbered TableAboveMaximum = refl
 numbered TakenAboveLimit = refl
 numbered FreeBelowShares = refl
 numbered SpanNotFree = refl
+numbered InvalidSheet = refl
 
 -- equal numbers, equal causes
 pub number-one-cause : (a b : Refusal) → number_of a ≡ number_of b → a ≡ b

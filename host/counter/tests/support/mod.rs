@@ -3,6 +3,8 @@
 
 #![allow(dead_code)]
 
+pub mod power;
+
 use std::collections::BTreeMap;
 use std::ffi::{CStr, OsStr, c_char};
 use std::fs::{self, File, OpenOptions};

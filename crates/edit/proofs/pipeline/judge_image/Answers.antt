@@ -3,7 +3,7 @@ use Rattle.std.specs.Prelude.{[]}
 use Rattle.std.proofs.Common.{refl}
 use Rattle.std.proofs.lemmas.Result.{err_from_is_err_and}
 use Rattle.edit.proofs.Edited.{numbered, unopened, teamless}
-use Rattle.edit.proofs.EditCases.{opens, judged-on-disc, judged-accounted}
+use Rattle.edit.proofs.EditCases.{opened-accounted, judged-on-disc, judged-accounted}
 use Rattle.edit.proofs.pipeline.judge_image.Goals as goal
 
 pub returns-in_err-disc-clause-foreseen : goal.returns-in_err-disc-clause-foreseen
@@ -14,7 +14,7 @@ returns-in_err-disc-clause-foreseen c =
 pub returns-in_err-charged-clause-foreseen : goal.returns-in_err-charged-clause-foreseen
 returns-in_err-charged-clause-foreseen c =
     let p = err_from_is_err_and c.from_residual-in_err-charged.result c.from_residual-in_err-charged.ensures.1 in
-    rw (p.1, p.2) (record { bytes = []; totals = c.args.totals.now; accounted = teamless _ _ _ _ _ _ [] _ _ refl (opens _ _ _ c.in_ok-disc.ensures) (rw c.in_err-charged.was at c.team_number.ensures.answer) })
+    rw (p.1, p.2) (record { bytes = []; totals = c.args.totals.now; accounted = opened-accounted _ _ _ _ c.in_ok-disc.ensures _ _ _ _ _ _ (teamless _ _ _ _ _ _ [] _ _ refl (rw c.in_err-charged.was at c.team_number.ensures.answer)) })
 
 pub account-requires-clause-on_disc : goal.account-requires-clause-on_disc
 account-requires-clause-on_disc c = judged-on-disc _ _ _ _ c.in_ok-disc.ensures _ _ c.judge-judged.ensures c.passable.ensures.passable

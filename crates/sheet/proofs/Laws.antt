@@ -1,0 +1,4 @@
+-- What follows from the definitions.
+pub mod Asked
+pub mod CheckedWhole
+pub mod ReadsBack

@@ -1,0 +1,4 @@
+pub mod Layout
+pub mod Written
+pub mod Theorem
+pub mod Inner
