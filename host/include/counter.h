@@ -381,7 +381,7 @@ uint32_t counter_zero(uint8_t *image, size_t image_len, uint32_t *words, size_t 
  *
  * The whole sheet is checked before the image is looked at: 30, with line 0, for fewer bytes than a header; more than COUNTER_MOST_LINES
  * lines; lines or texts, also none, that end past the sheet; and of any line, also one behind a line that would be refused, a kind that is
- * none of these, a new offset or size that is not 0 where it must be, or a path with no zero byte from its begin to the texts' end. Then
+ * none of these, a new offset or size that is not 0 where it must be, or a path with no zero byte from where it begins to the texts' end. Then
  * opening, and then 15 for a team above 15, both with line 0, of a sheet without lines too. Then each line in turn: a path over
  * COUNTER_MOST_PATH bytes, its zero byte not counted, 9; 17, 18 along it; then as the edit. */
 uint32_t counter_sheet(uint8_t *image, size_t image_len, uint32_t *words, size_t words_len, uint8_t *bytes, size_t bytes_len,

@@ -84,8 +84,8 @@ pub fn decide(disc: &OpenDisc<'_>, bytes: &mut [u8], edit: Edit<'_>) -> Result<D
     }
 }
 
-/// What an edit decides on, on an open disc, once the team and the record are tested too, and the record moved
-/// on by it. The team is the first test, the record's tests are the last.
+/// What an edit decides on, on an open disc, once the team and the record are tested too, and the record
+/// moved on by it. The team is the first test, the record's tests are the last.
 pub fn enter(
     disc: &OpenDisc<'_>,
     bytes: &mut [u8],

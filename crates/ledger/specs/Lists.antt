@@ -1,5 +1,6 @@
--- A list of edits as one call: the calls that it comes to, what each gives back, what the one call does; and what the theorems about lists of
--- calls then say of it, as of any call that comes to such a list. Assumes nothing: these are definitions.
+-- A list of edits as one call: the calls that it comes to, what each gives back, what the one call
+-- does; and what the theorems about lists of calls then say of it, as of any call that comes to such
+-- a list. Assumes nothing: these are definitions.
 use Rattle.std.specs.Prelude.{Result, Ok, ℕ, ◌≡◌, ◌++◌, nat_lt, if◌then◌else◌, List, [], ◌∷◌, length, drop}
 use Rattle.refusal.specs.declared.Refusal.{Refusal}
 use Rattle.refusal.specs.declared.Refusal.TheVariants.{LimitOrMemory}
@@ -45,23 +46,28 @@ pub record AppliesInTurn (turns : List Turn) (before after : Loan) (old new : Li
   pub words : after.words ≡ zeros before.words
   pub bytes : after.bytes ≡ zeros before.bytes
 
--- ---- what the theorems about lists of calls say of the image and the record that a call leaves, if it comes to these calls
+-- ---- what the theorems about lists of calls say of the image and the record that a call leaves, if
+-- it comes to these calls
 
--- an image that opens with the lent words: what holds after any list of calls holds of the image afterwards, by the list's ledger
+-- an image that opens with the lent words: what holds after any list of calls holds of the image
+-- afterwards, by the list's ledger
 abbrev pub LedgerHoldsAfter : List Call → Loan → Loan → Type 0
 LedgerHoldsAfter calls before after =
     opening before.image (length before.words) ≡ Ok tt →
-    LedgerHolds (length before.words) before.image after.image (ledger_after (reports_of calls before.image) (first_ledger before.image))
+    LedgerHolds (length before.words) before.image after.image
+    (ledger_after (reports_of calls before.image) (first_ledger before.image))
 
--- a record that was made of the image with the lent words: it tells what one made afresh would, and what each team has taken since, in how many
--- accepted edits
+-- a record that was made of the image with the lent words: it tells what one made afresh would, and
+-- what each team has taken since, in how many accepted edits
 abbrev pub TellsAfter : List Call → Loan → Loan → Type 0
 TellsAfter calls before after =
     (limits shares : List ℕ) → length limits ≡ 16 → length shares ≡ 16 →
     record_answer before.image (length before.words) limits shares ≡ Ok before.totals →
-    Tells after.image (length before.words) (team_after_all limits shares calls before.image) after.totals
+    Tells after.image (length before.words)
+    (team_after_all limits shares calls before.image) after.totals
 
--- an image that opens with the lent words, nothing taken and all shares free: the shares hold, and suffice at each call
+-- an image that opens with the lent words, nothing taken and all shares free: the shares hold, and
+-- suffice at each call
 abbrev pub SharesHoldAfter : List Call → Loan → Loan → Type 0
 SharesHoldAfter calls before after =
     opening before.image (length before.words) ≡ Ok tt → IsFairStart before.image before.totals →

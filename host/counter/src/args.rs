@@ -633,9 +633,9 @@ line `header: FST maximum` of LIST gives leave for it.";
 const RUN: &str = "\
 TEXT is a text file in UTF-8 of at most 16 MiB and 100,000 lines. A line is `mkdir PATH`, `add PATH`, `move PATH \
 OFFSET` or `resize PATH SIZE`, with a path and a number as the commands of these names take them; but mkdir makes one \
-folder, whose parent is there, and move knows no `auto`. The path goes up to the line's end, or to the number, without \
-the spaces and tabs around it, and may have spaces in it. It may stand in quotes: then \\xHH is any byte, and \\\\ and \
-\\\" stand for themselves. Empty lines, and those that begin with #, say nothing. What is wrong is told with line and \
+folder, whose parent is there, its path has no / at its end, and move knows no `auto`. The path goes up to the line's end, or to the number, without \
+the spaces and tabs around it, and may have spaces in it. It may stand in quotes: then \\xHH is any byte, \\\\ and \
+\\\" stand for themselves, and it is taken as it is; without, one that no image takes is an error. Empty lines, and those that begin with #, say nothing. What is wrong is told with line and \
 column (65). --show writes a text that compiles to the same lines. What a sheet is, docs/FORMAT.md tells.
 The sheet is checked before the image is looked at: where it is none (30), what is wrong is told, and nothing is done. \
 It may have 1,024 lines. Then each line is tried, has its journal, is written and synced, and is counted in the FILE of \
@@ -644,7 +644,8 @@ lines before it are done and stay. Once what is wrong is put right, --from LINE 
 refusal what each line would do, on what the lines before it would leave, and the record then.
 A sheet's journal stays from one line to the next. So wherever a sheet is cut, `counter recover` and the next edit \
 finish the line that was cut and tell which it is, and with which the sheet goes on. `counter sheet` does so too, and \
-then begins with no line of the same sheet unless --from says with which (64): it might have been run already.";
+then begins with no line of the same sheet unless --from says with which, and not with that one (64): it might have been \
+run already. A sheet is known by its bytes, whatever its file is called.";
 
 const COMPARE: &str = "\
 LIST is a text file in UTF-8 of at most 16 MiB and 100,000 lines, one path a line as PATH is given; a line that ends in / stands for that folder and all in it. / \
@@ -984,7 +985,7 @@ impl Args {
         // Without an image only the bare command shows the small master: elsewhere it is likely that
         // a name is missing.
         if got < least || got > most || (got == 0 && !bare) {
-            return Err(Failure::usage(format!("usage: {}", self.form.usage())));
+            return Err(Failure::usage(format!("usage: {}", self.form.usages().join(", or "))));
         }
         if !self.is_without_image() && got > 0 {
             self.image = Some(PathBuf::from(self.operands.remove(0)));
@@ -1011,6 +1012,19 @@ impl Form {
         options.into_iter().any(|arg| arg == "--help" || arg == "-h")
     }
 
+    /// Each way to use the command, on one line each.
+    pub fn usages(&self) -> Vec<String> {
+        let own = self.usage();
+        match self.name {
+            "sheet" => {
+                let rest = "[--bytes] [--json]";
+                let made = format!("counter sheet --compile TEXT FILE [--dry-run] {rest}");
+                vec![own, made, format!("counter sheet --show FILE {rest}")]
+            }
+            _ => vec![own],
+        }
+    }
+
     /// The command with its operands and options, on one line.
     pub fn usage(&self) -> String {
         let mut out = format!("counter {}", self.name);
@@ -1020,7 +1034,6 @@ impl Form {
                 ("map", "IMAGE") => "IMAGE|--demo",
                 ("record", "IMAGE") => "IMAGE|FILE",
                 ("fill", "CLIP") => "CLIP|--from OTHER[:PATH]",
-                ("sheet", "IMAGE") => "IMAGE|--compile TEXT|--show",
                 ("new", "OUT") => "OUT --size SIZE --code GAME --from LIST|--from-dir DIR",
                 (_, name) => name,
             };

@@ -275,6 +275,11 @@ fn called(path: &[u8]) -> String {
     }
 }
 
+/// Whether its first name is `..`.
+fn above_root(path: &[u8]) -> bool {
+    parts(path).into_iter().find(|part| !part.is_empty()) == Some(b"..")
+}
+
 /// A path cut at its last `/`, which is in no pair: the folder, and the name in it.
 fn cut(path: &[u8]) -> (&[u8], &[u8]) {
     match path.iter().rposition(|&b| b == b'/') {
@@ -303,6 +308,9 @@ pub fn refused(wish: &Wish, number: u32) -> Failure {
             None => failure,
         },
         (16, _) => failure.because(A_FOLDER),
+        (18, Wish::MakeFolder(path) | Wish::Add(path)) if above_root(path) => {
+            failure.because("a path begins at the root, and nothing is above it")
+        }
         // Of a line alone: a command looks the path up itself.
         (18, Wish::MakeFolder(path) | Wish::Add(path)) => failure.because(format!(
             "there is no folder {}; a line makes one folder alone",

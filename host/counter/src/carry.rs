@@ -12,7 +12,7 @@ use crate::kept::Kept;
 use crate::names;
 use crate::os::{Access, Mapping};
 use crate::progress::Progress;
-use crate::recover::{Finished, How, given_up, go_on, put_right, still_there, stuck, unrecorded};
+use crate::recover::{Finished, How, given_up, put_right, still_there, stuck, unrecorded};
 use crate::text::human;
 use crate::{redo, room, signals};
 use counter_sys::Record;
@@ -23,8 +23,8 @@ use std::path::Path;
 use std::time::Instant;
 
 /// The image to be edited, and the edit of it that was cut and is finished now; for a dry run only to be
-/// read.
-pub fn open(path: &Path, dry: bool) -> Outcome<(Image, Option<Finished>)> {
+/// read. What is left of a sheet is told, unless the program goes on with that itself.
+pub fn open(path: &Path, dry: bool, goes_on: bool) -> Outcome<(Image, Option<Finished>)> {
     if dry {
         return Ok((Image::read(Some(path))?, None));
     }
@@ -33,9 +33,9 @@ pub fn open(path: &Path, dry: bool) -> Outcome<(Image, Option<Finished>)> {
     if let Some(finished) = &finished {
         let file = finished.file.as_ref();
         let file = file.map_or(String::new(), |file| format!("; record written to {file}"));
-        let line = finished.line.as_ref();
-        let line = line.map_or(String::new(), |line| format!("; {}", go_on(line, path)));
-        eprintln!("counter: finished an edit that was cut: {}{file}{line}", finished.words);
+        let on = finished.on.as_ref().filter(|_| !goes_on);
+        let on = on.map_or(String::new(), |on| format!("; {on}"));
+        eprintln!("counter: finished an edit that was cut: {}{file}{on}", finished.words);
         // The next one is not begun yet.
         signals::begin_writing(true);
     }
@@ -104,7 +104,7 @@ pub struct Work<'a> {
     pub record: String,
     /// The line of a sheet that it is.
     pub line: Option<Line>,
-    /// As what the program begins anew, if a page of the image fails.
+    /// As what the program begins anew, if a page of the image fails: its own name, and the arguments.
     pub rescue: Vec<OsString>,
     /// Since when it is worked at, a sheet's lines before it too.
     pub since: Instant,
@@ -114,7 +114,10 @@ pub struct Work<'a> {
 pub fn recovery(args: &Args, image: &Image) -> Vec<OsString> {
     let json = args.json.then(|| "--json".into());
     let path = image.path().map(OsString::from).unwrap_or_default();
-    [Some("recover".into()), json, Some("--".into()), Some(path)].into_iter().flatten().collect()
+    [Some("counter".into()), Some("recover".into()), json, Some("--".into()), Some(path)]
+        .into_iter()
+        .flatten()
+        .collect()
 }
 
 /// An edit that is on the disk, with its record. Its journal is there still.

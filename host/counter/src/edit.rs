@@ -22,7 +22,7 @@ pub fn edit(args: &Args) -> Outcome<()> {
     let path = args.image.as_deref().expect("an edit has an image");
     let wish = Wish::read(args, path)?;
     let file = kept::place(args, wish.clip())?;
-    let (mut image, _) = carry::open(path, args.dry)?;
+    let (mut image, _) = carry::open(path, args.dry, false)?;
     let mut desk = Desk::new();
     let before = Disc::read(&image, &mut desk)?;
     let (turn, mut kept) = record::in_use(args, file.as_deref(), &image, &mut desk)?;

@@ -119,7 +119,9 @@ pub fn about(subject: &str) -> Option<String> {
 }
 
 fn command(out: &mut String, form: &Form) {
-    let _ = writeln!(out, "{}", wrapped(&form.usage(), 2, 6));
+    for usage in form.usages() {
+        let _ = writeln!(out, "{}", wrapped(&usage, 2, 6));
+    }
     let _ = writeln!(out, "{}", wrapped(form.words, 6, 6));
 }
 
@@ -256,11 +258,14 @@ const FIELDS: &[(&str, &str)] = &[
         "sheet",
         "status edit sheet lines from ran line dry_run written finished edits[line edit path path_bytes written \
          table{before after} entries[number path path_bytes kind before{offset size} after{offset size}] \
-         renumbered{first last} lost notes[...]] record{used free largest_free edits team{TEAM}}; lines: how many the \
-         sheet has; from: the first that was to run; ran: how many of them ran; line: the one at which the sheet \
-         stopped, or null; written: whether the image was; finished: an edit that was cut before and is finished now, \
-         or null; edits: of the lines that ran, in a dry run of those that would, as of an edit; record: as they leave \
-         it. A refusal at a line has all of this too",
+         renumbered{first last} lost notes[...] record{..}] record{used free largest_free edits team{TEAM}}; lines: \
+         how many the sheet has; from: the first that was to run; ran: how many of them ran; line: the one at which \
+         the sheet stopped, or null; written: whether the image was; finished: an edit that was cut before and is \
+         finished now, or null; edits: of the lines that ran, in a dry run of those that would, as of an edit; record: \
+         as that line, and as all leave it. A refusal at a line has all of this too. Where a line was cut before and no other was run, \
+         line is that one, from the next or null, ran 0, finished null if it is not, and there are no edits and no \
+         record. After a failing page the program begins anew: from and ran tell of the first one's lines too, edits \
+         only of those since; of the last line the answer is that of recover",
     ),
     ("sheet", "with --compile: status edit out dry_run written lines bytes"),
     (
@@ -270,10 +275,11 @@ const FIELDS: &[(&str, &str)] = &[
     ),
     (
         "recover",
-        "status edit finished written out record{used free largest_free edits team{TEAM}} sheet{file line lines from}; \
+        "status edit finished written out record{used free largest_free edits team{TEAM}} sheet{file line lines from there}; \
          finished: the edit that was \
          cut, or null; out: the FILE of its --record, where it was written, or null; record: as it is after that edit, or null (maximum has none); \
-         sheet: the line of a sheet that it was, and with which the sheet goes on (null if it was the last), or null",
+         sheet: the line of a sheet that it was, and with which the sheet goes on (null if it was the last), or null; \
+         there: whether FILE is that sheet still",
     ),
     (
         "new",
@@ -454,7 +460,8 @@ fn statuses() -> String {
          \x20     --record: a FILE that is the image, a clip, a journal, a folder or a special file;\n\
          \x20     --team: left out with a record that has teams, given with another, or no team of it;\n\
          \x20     fill: a clip that is the image, a journal or a clip that is kept;\n\
-         \x20     sheet: --from with no such line; left out where a line of the sheet was cut and is finished now\n\
+         \x20     sheet: --from with no such line; where a line of the same sheet was cut and is finished now, --from\n\
+         \x20     left out, or with that line\n\
          \x20 65  compare, report: an image too short for a header, a LIST or a manifest that is wrong;\n\
          \x20     a command that shows every path: more than 64 MiB of them;\n\
          \x20     --record: a FILE that is torn or no record, or whose used bytes or largest free region\n\
@@ -464,10 +471,11 @@ fn statuses() -> String {
          \x20     new: a LIST that is wrong; OUT in DIR; in DIR a name that Shift-JIS does not have, a\n\
          \x20     counter-new.N, a file of 4 GiB or more, one whose length changes meanwhile, or more than\n\
          \x20     100,000 files;\n\
-         \x20     sheet: a TEXT that is wrong, with line and column; a sheet or a text of more than 16 MiB\n\
+         \x20     sheet: a TEXT that is wrong, with line and column, or a sheet already; a sheet or a text of more\n\
+         \x20     than 16 MiB\n\
          \x20 66  no such image or clip, or a folder in its place, or a special file in the image's;\n\
          \x20     --given, --from, --teams LIST: no such LIST, or a folder in its place; sheet: no such FILE or\n\
-         \x20     TEXT, or a folder in its place;\n\
+         \x20     TEXT, or a folder in its place; after a line that a failing page cut, no FILE or another one;\n\
          \x20     new: no such DIR, or a file in its place, or a link or a special file in it\n\
          \x20 70  the library answered what it never should\n\
          \x20 73  an output, a journal, a clip that is kept or a record cannot be created, or is there already;\n\
@@ -477,7 +485,8 @@ fn statuses() -> String {
          \x20 77  not allowed: a read-only file or disk, or no permission\n\
          \x20     64 to 75 and 77: header, table and files are as they were; with 74 free space may hold\n\
          \x20     part of a copy; `new` leaves nothing\n\
-         \x20     sheet: where a line is told, all this is of that line; those before it are done and stay\n\
+         \x20     sheet: where a line is told, all this is of that line; those before it are done and stay,\n\
+         \x20     and so is one that was cut before and is told to be finished now\n\
          \x20 76  the edit, or the new image, is written and synced, but its answer could not be printed\n\
          \x20 78  an edit was cut: the image may hold a part of it, and its journal is there;\n\
          \x20     `counter recover IMAGE` finishes the edit. Or only its record is not written yet: the\n\

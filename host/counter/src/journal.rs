@@ -9,6 +9,7 @@
 use crate::change::{Change, HEADER};
 use crate::disk::{self, On};
 use crate::names;
+use crate::sha256::{self, Sha256};
 use crate::sum;
 use crate::text::one_line;
 use counter_sys::MOST_TABLE;
@@ -54,19 +55,66 @@ pub struct Totals {
     pub new: Vec<u8>,
 }
 
-/// The line of a sheet whose edit it is, of how many, and the sheet's file.
+/// The line of a sheet whose edit it is, of how many, where the sheet was, and the sum of its bytes, by
+/// which it is known.
 #[derive(Debug, Clone, PartialEq, Eq)]
 pub struct Line {
     pub number: u32,
     pub of: u32,
     pub sheet: PathBuf,
+    pub sum: sha256::Sum,
+}
+
+/// Most bytes of a sheet's file, above those that 1,024 lines can want.
+pub const LONGEST_SHEET: u64 = 16 << 20;
+
+/// What is now where a line's sheet was.
+#[derive(Debug, Clone, Copy, PartialEq, Eq)]
+pub enum Now {
+    Same,
+    Another,
+    Gone,
+    /// It came through a pipe, or under a name that says nothing to another program.
+    Nowhere,
+}
+
+/// Whether the name is another file's to each program.
+pub fn is_of_a_run(path: &Path) -> bool {
+    ["/proc", "/dev/fd", "/dev/stdin"].iter().any(|name| path.starts_with(name))
 }
 
 impl Line {
     /// The line in words, before those of its edit.
     pub fn words(&self) -> String {
-        format!("{}, line {} of {}", names::file(&self.sheet), self.number, self.of)
+        let (file, line) =
+            (names::file(&self.sheet), format!("line {} of {}", self.number, self.of));
+        match self.now() {
+            Now::Another => format!("{line} of another sheet that was at {file}"),
+            _ => format!("{file}, {line}"),
+        }
     }
+
+    pub fn now(&self) -> Now {
+        match fs::metadata(&self.sheet) {
+            _ if is_of_a_run(&self.sheet) => Now::Nowhere,
+            Ok(told) if told.is_file() => match told.len() <= LONGEST_SHEET && self.is_there() {
+                true => Now::Same,
+                false => Now::Another,
+            },
+            Ok(told) if !told.is_dir() => Now::Nowhere,
+            _ => Now::Gone,
+        }
+    }
+
+    fn is_there(&self) -> bool {
+        fs::read(&self.sheet).is_ok_and(|bytes| sum_of_sheet(&bytes) == self.sum)
+    }
+}
+
+pub fn sum_of_sheet(bytes: &[u8]) -> sha256::Sum {
+    let mut sum = Sha256::new();
+    sum.update(bytes);
+    sum.finish()
 }
 
 /// What the edit does, and to which file.
@@ -155,8 +203,17 @@ pub fn has_no_place(image: &Path) -> bool {
 
 /// The edit whose journal it is, in words.
 pub fn words(image: &Path) -> Option<String> {
+    plan(image).map(|plan| plan.words())
+}
+
+/// The line of a sheet whose journal it is.
+pub fn line(image: &Path) -> Option<Line> {
+    plan(image)?.line
+}
+
+fn plan(image: &Path) -> Option<Plan> {
     let bytes = read(&beside(image)).ok()??.ok()?;
-    decode(&bytes).map(|(plan, _)| plan.words())
+    decode(&bytes).map(|(plan, _)| plan)
 }
 
 /// What the disk tells of the journal's name. An error says that nobody knows whether there is one.
@@ -310,7 +367,7 @@ fn encode(plan: &Plan) -> Vec<u8> {
         .map_or(Vec::new(), |(old, new)| [old.to_le_bytes(), new.to_le_bytes()].concat());
     let line = line.as_ref().map_or(Vec::new(), |line| {
         let numbers = [line.number.to_le_bytes(), line.of.to_le_bytes()].concat();
-        [&numbers[..], line.sheet.as_os_str().as_bytes()].concat()
+        [&numbers[..], &line.sum, line.sheet.as_os_str().as_bytes()].concat()
     });
     for part in [&owner.header, words, &change.old, &change.new, file, old, new, &maximum, &line] {
         out.extend((part.len() as u64).to_le_bytes());
@@ -420,8 +477,9 @@ fn decode_line(part: &[u8]) -> Option<Option<Line>> {
     }
     let word = |at: usize| Some(u32::from_le_bytes(part.get(at..at + 4)?.try_into().ok()?));
     let (number, of) = (word(0)?, word(4)?);
-    let sheet = OsString::from_vec(part[8..].to_vec()).into();
-    (1..=of).contains(&number).then_some(Some(Line { number, of, sheet }))
+    let (sum, sheet) = part[8..].split_first_chunk()?;
+    let sheet = OsString::from_vec(sheet.to_vec()).into();
+    (1..=of).contains(&number).then_some(Some(Line { number, of, sheet, sum: *sum }))
 }
 
 /// What the sum says of a plan is that it is whole; this, that it can be acted on.

@@ -13,6 +13,11 @@ pub const MOST_LINES: usize = 100_000;
 
 /// Each line that is not empty, with its number, from 1 on. `a_folder` is what is said of a folder.
 pub fn read(list: &Path, a_folder: &str) -> Outcome<Vec<(usize, Vec<u8>)>> {
+    of(list, &bytes(list, a_folder, "list")?, "list")
+}
+
+/// The bytes of a file of lines, which is called `what`.
+pub fn bytes(list: &Path, a_folder: &str, what: &str) -> Outcome<Vec<u8>> {
     if fs::metadata(list).is_ok_and(|told| told.is_dir()) {
         return Err(Failure::error(NO_INPUT, format!("{}: {a_folder}", names::file(list))));
     }
@@ -20,20 +25,24 @@ pub fn read(list: &Path, a_folder: &str) -> Outcome<Vec<(usize, Vec<u8>)>> {
     File::open(list)
         .and_then(|file| file.take(LONGEST + 1).read_to_end(&mut bytes))
         .map_err(|e| cannot_open(list, &e))?;
-    let wrong = |why: &str| Err(Failure::error(DATA, format!("{}{why}", names::file(list))));
     if bytes.len() as u64 > LONGEST {
-        return wrong(": no list has more than 16 MiB");
+        return Err(whole(list, &format!("no {what} has more than 16 MiB")));
     }
+    Ok(bytes)
+}
+
+/// The lines of these bytes.
+pub fn of(list: &Path, bytes: &[u8], what: &str) -> Outcome<Vec<(usize, Vec<u8>)>> {
     if bytes.starts_with(&[0xFF, 0xFE]) || bytes.starts_with(&[0xFE, 0xFF]) {
-        return wrong(": UTF-16; the list has to be UTF-8");
+        return Err(whole(list, &format!("UTF-16; the {what} has to be UTF-8")));
     }
     // In Shift-JIS these three bytes begin a name.
     let text = bytes.strip_prefix(b"\xEF\xBB\xBF").filter(|_| !names::are_raw());
-    let text = text.unwrap_or(&bytes);
+    let text = text.unwrap_or(bytes);
     let mut lines = Vec::new();
     for (i, line) in text.strip_suffix(b"\n").unwrap_or(text).split(|&b| b == b'\n').enumerate() {
         if i >= MOST_LINES {
-            return wrong(": no list has more than 100,000 lines");
+            return Err(whole(list, &format!("no {what} has more than 100,000 lines")));
         }
         let line = line.strip_suffix(b"\r").unwrap_or(line);
         if !line.is_empty() {
@@ -41,6 +50,10 @@ pub fn read(list: &Path, a_folder: &str) -> Outcome<Vec<(usize, Vec<u8>)>> {
         }
     }
     Ok(lines)
+}
+
+fn whole(list: &Path, why: &str) -> Failure {
+    Failure::error(DATA, format!("{}: {why}", names::file(list)))
 }
 
 /// What is wrong with a line.

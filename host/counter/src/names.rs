@@ -339,6 +339,16 @@ pub fn file(name: impl AsRef<OsStr>) -> String {
     out
 }
 
+/// The same as a word of a command, as a shell takes it.
+pub fn word(name: impl AsRef<OsStr>) -> String {
+    let text = file(name);
+    match text.chars().all(|c| c.is_alphanumeric() || "_-./+,:@%=".contains(c)) && !text.is_empty()
+    {
+        true => text,
+        false => format!("'{}'", text.replace('\'', r"'\''")),
+    }
+}
+
 // Taken -----------------------------------------------------------------------------------
 
 /// The bytes of a name or a path of the command line, or what is wrong with it.

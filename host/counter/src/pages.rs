@@ -56,7 +56,8 @@ fn man() -> String {
     for (group, name) in GROUPS {
         let _ = writeln!(out, ".SH {}", name.to_uppercase());
         for form in FORMS.iter().filter(|form| form.group == group) {
-            let _ = writeln!(out, ".TP\n.B {}\n{}", roff(&form.usage()), roff(form.words));
+            let usages = form.usages().iter().map(|usage| roff(usage)).collect::<Vec<_>>();
+            let _ = writeln!(out, ".TP\n.B {}\n{}", usages.join("\n.TQ\n.B "), roff(form.words));
             for line in form.more.lines() {
                 let _ = writeln!(out, ".IP\n{}", roff(line));
             }

@@ -5,7 +5,7 @@ use crate::args::Args;
 use crate::disk::{self, reason};
 use crate::failure::{CANNOT_CREATE, CUT, Failure, INPUT_OUTPUT, Outcome, UNSAID};
 use crate::image::{Desk, Image, untold};
-use crate::journal::{self, Journal, Line};
+use crate::journal::{self, Journal, Line, Now};
 use crate::json::Json;
 use crate::kept;
 use crate::names;
@@ -19,7 +19,8 @@ use crate::text::human;
 use counter_sys as counter;
 use std::fs::File;
 use std::io;
-use std::path::Path;
+use std::os::unix::ffi::OsStrExt;
+use std::path::{Path, PathBuf};
 
 pub fn recover(args: &Args) -> Outcome<()> {
     let path = args.image.as_deref().expect("recover has an image");
@@ -34,7 +35,7 @@ pub fn recover(args: &Args) -> Outcome<()> {
             edit.words,
             edit.turn.as_ref().map_or(String::new(), |turn| turn.line(edit.disc_end)),
             edit.file.as_ref().map_or(String::new(), |file| format!("record written to {file}\n")),
-            edit.line.as_ref().map_or(String::new(), |line| go_on(line, path) + "\n")
+            edit.on.as_ref().map_or(String::new(), |on| format!("{on}\n"))
         ),
     };
     let told = for_terminal(&told).into_bytes();
@@ -64,21 +65,51 @@ fn line_json(line: &Line) -> Json {
         ("line", line.number.into()),
         ("lines", line.of.into()),
         ("from", (line.number < line.of).then_some(line.number + 1).into()),
+        ("there", (line.now() == Now::Same).into()),
     ])
 }
 
-/// What is left of a sheet whose line is done.
-pub fn go_on(line: &Line, image: &Path) -> String {
-    match line.number == line.of {
-        true => "that was the last line of the sheet".into(),
-        false => from(&line.sheet, image, line.number + 1),
+/// The record that goes with a sheet.
+pub struct With {
+    pub file: PathBuf,
+    pub team: Option<String>,
+}
+
+impl With {
+    fn of(file: &Path, turn: &Turn) -> With {
+        let has_teams = !turn.account.names.is_empty();
+        With { file: file.into(), team: has_teams.then(|| turn.team.to_string()) }
     }
 }
 
-/// The command that runs a sheet from a line on.
-pub fn from(sheet: &Path, image: &Path, line: u32) -> String {
-    let [sheet, image] = [sheet, image].map(names::file);
-    format!("go on with `counter sheet {image} {sheet} --from {line}`")
+/// What is left of the sheet of this line from line `next` on.
+fn go_on(line: &Line, next: u32, image: &Path, with: Option<&With>) -> String {
+    let file = || names::file(&line.sheet);
+    match line.now() {
+        _ if next > line.of => "that was the last line of the sheet".into(),
+        Now::Same => from(Some(&line.sheet), image, next, with),
+        Now::Nowhere => from(None, image, next, with),
+        Now::Gone => format!("{} is not there any more, of which line {next} is the next", file()),
+        Now::Another => {
+            format!("of that sheet, which is not there any more, line {next} is the next")
+        }
+    }
+}
+
+/// The command that runs a sheet from a line on. One that came through a pipe has no name.
+pub fn from(sheet: Option<&Path>, image: &Path, line: u32, with: Option<&With>) -> String {
+    let files = [image, sheet.unwrap_or(Path::new("FILE"))];
+    let [image, file] = files.map(names::word);
+    let mut options = format!("--from {line}");
+    if let Some(With { file, team }) = with {
+        options += &format!(" --record {}", names::word(file));
+        options.extend(team.iter().map(|team| format!(" --team {}", names::word(team))));
+    }
+    let same = if sheet.is_none() { "the same sheet: " } else { "" };
+    match files.iter().any(|file| file.as_os_str().as_bytes().starts_with(b"-")) {
+        true => format!("go on with {same}`counter sheet {options} -- {image} {file}`"),
+        false => format!("go on with {same}`counter sheet {image} {file} {options}`"),
+    }
 }
 
 /// An edit that was cut and is finished now: in words, and what its record is then. Another FST maximum counts
@@ -88,8 +119,9 @@ pub struct Finished {
     turn: Option<Turn>,
     /// The record's file, where it was written.
     pub file: Option<String>,
-    /// The line of a sheet that it is.
+    /// The line of a sheet that it is, and what is left of that.
     pub line: Option<Line>,
+    pub on: Option<String>,
     disc_end: u32,
 }
 
@@ -108,7 +140,7 @@ pub fn finish_as(text: &[u8], during: &str, done: &str) -> Outcome<()> {
     match signals::signalled() {
         None => Ok(()),
         Some(number) => {
-            let text = format!("signal {number} came {during}; {done}");
+            let text = format!("{} came {during}; {done}", signals::name(number));
             Err(Failure::Signal { number, text })
         }
     }
@@ -146,15 +178,23 @@ pub fn put_right(image: &Image, how: &How) -> Outcome<Option<Finished>> {
     signals::begin_writing(false);
     let progress = Progress::start("recovering", redo::work(&journal));
     let words = journal.plan.words();
+    let with = match (&totals, &counted) {
+        (Some(totals), Some(turn)) if !how.without_record => Some(With::of(&totals.file, turn)),
+        _ => None,
+    };
+    // As it was given.
+    let named = Path::new(&image.name);
+    let left = |line: &Line, next: u32| go_on(line, next, named, with.as_ref());
     redo::redo(file, &mut journal, &progress).map_err(|why| {
         let failure = stuck(file, path, &journal, &why);
-        match &journal.plan.line {
+        let then = journal.plan.line.as_ref().map(|line| match failure.status() {
+            CUT => format!("; {}", left(line, line.number + 1)),
             // It is given up.
-            Some(line) if failure.status() != CUT => {
-                let on = from(&line.sheet, path, line.number);
-                failure.then(format!("; {} was not run: {on}", line.words()), Vec::new())
-            }
-            _ => failure,
+            _ => format!("; {} was not run: {}", line.words(), left(line, line.number)),
+        });
+        match then {
+            Some(then) => failure.then(then, Vec::new()),
+            None => failure,
         }
     })?;
     let mut desk = Desk::new();
@@ -163,7 +203,7 @@ pub fn put_right(image: &Image, how: &How) -> Outcome<Option<Finished>> {
     let written = totals.as_ref().filter(|_| !how.without_record);
     match (written, &totals) {
         (Some(totals), _) => kept::put_again(totals).map_err(|why| unrecorded(path, &why))?,
-        (None, Some(totals)) => left(totals),
+        (None, Some(totals)) => unwritten(totals),
         (None, None) => {}
     }
     let file = written.map(|totals| names::file(&totals.file));
@@ -172,11 +212,12 @@ pub fn put_right(image: &Image, how: &How) -> Outcome<Option<Finished>> {
         None => Some(counted.map_or_else(|| record::alone(image, &mut desk), Ok)?),
     };
     journal.remove().map_err(|why| still_there(&journal, &why))?;
+    let on = journal.plan.line.as_ref().map(|line| left(line, line.number + 1));
     let line = journal.plan.line;
-    Ok(Some(Finished { words, turn, file, line, disc_end: opened.disc_end }))
+    Ok(Some(Finished { words, turn, file, line, on, disc_end: opened.disc_end }))
 }
 
-fn left(totals: &journal::Totals) {
+fn unwritten(totals: &journal::Totals) {
     eprintln!("counter: {}: left as it is, without this edit", names::file(&totals.file));
 }
 

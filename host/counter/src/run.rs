@@ -6,7 +6,7 @@ use crate::call::{Call, Wish};
 use crate::carry::{self, Done, Work};
 use crate::disc::Disc;
 use crate::edited;
-use crate::failure::{CUT, DATA, Failure, Outcome, UNSAID};
+use crate::failure::{CUT, DATA, Failure, INPUT_OUTPUT, INTERNAL, NO_INPUT, Outcome, UNSAID};
 use crate::image::{Desk, Image};
 use crate::journal;
 use crate::json::{self, Json};
@@ -16,17 +16,19 @@ use crate::names;
 use crate::out::say;
 use crate::progress::Progress;
 use crate::record;
-use crate::recover::{finish_as, from};
+use crate::recover::{Finished, With, finish_as, from};
 use crate::save::{save, vacant};
 use crate::script;
+use crate::sha256;
 use crate::sheet::{self, Kind, Line, Sheet};
 use crate::signals;
 use crate::text::counted;
 use crate::told::{answer, dry, led, left};
 use crate::trial::{Trial, try_out};
+use std::env;
 use std::ffi::OsString;
 use std::fs;
-use std::path::Path;
+use std::path::{Path, PathBuf};
 use std::slice;
 use std::time::Instant;
 
@@ -114,12 +116,17 @@ fn shown(line: &Line, n: u32) -> Vec<(&'static str, Json)> {
 
 fn run(args: &Args) -> Outcome<()> {
     let path = args.image.as_deref().expect("a sheet is run on an image");
-    let sheet = Sheet::read(&args.path(0))?;
-    let first = first(args, &sheet)?;
+    let anew = Anew::this();
+    let sheet = match &anew {
+        None => Sheet::read(&args.path(0)),
+        Some(anew) => anew.read(&args.path(0)),
+    };
+    let sheet = sheet.map_err(|why| without_sheet(args, path, anew.is_some(), why))?;
+    let begin = first(args, &sheet)?;
     let file = kept::place(args, None)?;
-    let (image, finished) = carry::open(path, args.dry)?;
-    if let Some(line) = finished.as_ref().and_then(|finished| finished.line.as_ref()) {
-        may_begin(args, &sheet, line)?;
+    let (image, finished) = opened(args, path, anew.is_some())?;
+    if let Some(finished) = &finished {
+        may_begin(args, &sheet, finished)?;
     }
     // What lines of a dry run leave is put there.
     let image = if args.dry { image.trial(&[], &[])? } else { image };
@@ -131,7 +138,9 @@ fn run(args: &Args) -> Outcome<()> {
         args,
         path,
         sheet,
-        first,
+        begin,
+        first: anew.as_ref().map_or(begin, |anew| anew.first),
+        written: anew.is_some(),
         finished: finished.map(|finished| finished.words),
         since: Instant::now(),
         table,
@@ -141,7 +150,6 @@ fn run(args: &Args) -> Outcome<()> {
         turn,
         kept,
         standing: None,
-        written: false,
         results: Vec::new(),
         unsaid: None,
     };
@@ -151,7 +159,8 @@ fn run(args: &Args) -> Outcome<()> {
 /// The line to begin with.
 fn first(args: &Args, sheet: &Sheet) -> Outcome<u32> {
     let Some(first) = args.first else { return Ok(1) };
-    match (1..=sheet.count()).contains(&first) {
+    // One without lines is done from the first on.
+    match (1..=sheet.count().max(1)).contains(&first) {
         true => Ok(first),
         false => Err(Failure::usage(format!(
             "--from {first}: {} has {}, numbered from 1 on",
@@ -161,28 +170,121 @@ fn first(args: &Args, sheet: &Sheet) -> Outcome<u32> {
     }
 }
 
-/// A line of the same sheet was cut: whoever runs it again most likely does not want all lines again.
-fn may_begin(args: &Args, sheet: &Sheet, cut: &journal::Line) -> Outcome<()> {
-    if args.first.is_some() || cut.sheet != sheet.place {
+/// A line of the same sheet was cut: whoever runs it again most likely does not want all lines again, nor that
+/// one.
+fn may_begin(args: &Args, sheet: &Sheet, finished: &Finished) -> Outcome<()> {
+    let Some(cut) = finished.line.as_ref().filter(|cut| cut.sum == sheet.sum) else {
         return Ok(());
-    }
-    let next = match cut.number < cut.of {
-        true => format!("go on with --from {};", cut.number + 1),
-        false => "it was the last one:".into(),
     };
-    Err(Failure::usage(format!(
-        "{}: line {} of {} was cut and is finished now, and nothing more was done; {next} --from 1 would run all \
-         lines again",
-        names::file(&sheet.file),
-        cut.number,
-        cut.of
-    )))
+    let (n, of) = (cut.number, cut.of);
+    let next = match n < of {
+        true => format!("--from {} goes on", n + 1),
+        false => "it was the last one".into(),
+    };
+    let why = match args.first {
+        None => format!(
+            "line {n} of {of} was cut and is finished now, and nothing more was done; {next}; --from 1 would run \
+             all lines again"
+        ),
+        Some(first) if first == n => format!("line {n} is done; {next}; nothing more was done"),
+        Some(_) => return Ok(()),
+    };
+    let why = Failure::usage(format!("{}: {why}", names::file(&sheet.file)));
+    Err(why.then(String::new(), of_cut(args, cut, Some(&finished.words))))
+}
+
+/// What the answer holds of a line that was cut, where no other was run.
+fn of_cut(
+    args: &Args,
+    line: &journal::Line,
+    finished: Option<&String>,
+) -> Vec<(&'static str, Json)> {
+    vec![
+        ("edit", args.form.name.into()),
+        ("sheet", names::file(&line.sheet).into()),
+        ("lines", line.of.into()),
+        ("from", (line.number < line.of).then_some(line.number + 1).into()),
+        ("ran", 0u32.into()),
+        ("line", line.number.into()),
+        ("dry_run", args.dry.into()),
+        ("written", finished.is_some().into()),
+        ("finished", finished.map(String::as_str).into()),
+    ]
+}
+
+/// The image. Where an edit was cut and is not finished, the answer holds its line.
+fn opened(args: &Args, path: &Path, goes_on: bool) -> Outcome<(Image, Option<Finished>)> {
+    let standing = journal::line(&place(path));
+    carry::open(path, args.dry, goes_on).map_err(|why| match standing {
+        Some(line) if [CUT, INPUT_OUTPUT].contains(&why.status()) => {
+            why.then(String::new(), of_cut(args, &line, None))
+        }
+        _ => why,
+    })
+}
+
+fn place(image: &Path) -> PathBuf {
+    fs::canonicalize(image).unwrap_or(image.to_path_buf())
+}
+
+/// An edit of the image may have been cut, although there is no sheet to be read. A program that began anew has
+/// said that it is finished.
+fn without_sheet(args: &Args, path: &Path, is_anew: bool, why: Failure) -> Failure {
+    if !is_anew {
+        let image = names::word(path);
+        let cut = format!(
+            "; there is the journal of an edit of this image: unless another program is at it now, `counter \
+             recover {image}` finishes it"
+        );
+        return if journal::is_there(&place(path)) { why.then(cut, Vec::new()) } else { why };
+    }
+    let finished = match opened(args, path, true) {
+        Ok((_, finished)) => finished,
+        Err(why) => return why,
+    };
+    let Some(Finished { words, line: Some(line), on, .. }) = &finished else { return why };
+    let on = on.as_deref().unwrap_or_default();
+    let then = format!("; line {} is done, and no other was run; {on}", line.number);
+    why.then(then, of_cut(args, line, Some(words)))
+}
+
+/// A program that began anew in the midst of a line: of which sheet, and with which line the first one began.
+/// It knows that from its own name.
+struct Anew {
+    first: u32,
+    sum: String,
+}
+
+impl Anew {
+    fn name(&self) -> OsString {
+        format!("counter:{}:{}", self.first, self.sum).into()
+    }
+
+    fn this() -> Option<Anew> {
+        let name = env::args_os().next()?.into_string().ok()?;
+        let (first, sum) = name.strip_prefix("counter:")?.split_once(':')?;
+        Some(Anew { first: first.parse().ok()?, sum: sum.into() })
+    }
+
+    /// The sheet, if it is the same still.
+    fn read(&self, file: &Path) -> Outcome<Sheet> {
+        match Sheet::read_again(file) {
+            Ok(sheet) if sha256::hex(&sheet.sum) == self.sum => Ok(sheet),
+            Ok(_) => {
+                let text = format!("{}: another sheet is there now", names::file(file));
+                Err(Failure::error(NO_INPUT, text))
+            }
+            Err(why) => Err(Failure::error(NO_INPUT, why.to_string())),
+        }
+    }
 }
 
 struct Run<'a> {
     args: &'a Args,
     path: &'a Path,
     sheet: Sheet,
+    /// The line with which it begins, and the one with which the program did that began before.
+    begin: u32,
     first: u32,
     /// An edit that was cut before, in words.
     finished: Option<String>,
@@ -206,7 +308,7 @@ struct Run<'a> {
 
 impl Run<'_> {
     fn all(mut self) -> Outcome<()> {
-        for n in self.first..=self.sheet.count() {
+        for n in self.begin..=self.sheet.count() {
             let done = self.may_go_on(n).and_then(|()| self.line(n));
             if let Err(why) = done {
                 return Err(self.stopped(n, why));
@@ -240,9 +342,10 @@ impl Run<'_> {
     /// A signal has its turn between two lines.
     fn may_go_on(&self, n: u32) -> Outcome<()> {
         match signals::signalled() {
-            Some(number) if n > self.first && !self.args.dry => {
-                Err(Failure::Signal { number, text: format!("signal {number} came before it") })
-            }
+            Some(number) if n > self.begin && !self.args.dry => Err(Failure::Signal {
+                number,
+                text: format!("{} came before it", signals::name(number)),
+            }),
             _ => Ok(()),
         }
     }
@@ -262,10 +365,13 @@ impl Run<'_> {
                 self.results.push(self.result(n, name, &wish, &call, &trial));
                 None
             }
-            false => Some(led(
-                format!("line {n}: ").as_bytes(),
-                &answer(&wish, &call, &self.disc, &trial),
-            )),
+            false => {
+                let mut told = answer(&wish, &call, &self.disc, &trial);
+                if self.args.dry {
+                    told.extend(record_after(&trial).into_bytes());
+                }
+                Some(led(format!("line {n}: ").as_bytes(), &told))
+            }
         };
         match self.args.dry {
             true => self.leave(trial),
@@ -280,8 +386,9 @@ impl Run<'_> {
         let Trial { found, after, change, given, turn, .. } = trial;
         carry::enough_room(&self.image, &change)?;
         let is_written = !change.is_nothing();
+        let Sheet { place, sum, .. } = &self.sheet;
         let line =
-            journal::Line { number: n, of: self.sheet.count(), sheet: self.sheet.place.clone() };
+            journal::Line { number: n, of: self.sheet.count(), sheet: place.clone(), sum: *sum };
         let work = Work {
             wish,
             call,
@@ -303,13 +410,12 @@ impl Run<'_> {
 
     /// As what the program begins anew in the midst of a line: it finishes that, and goes on.
     fn rescue(&self, n: u32) -> Vec<OsString> {
-        // One that was read from a pipe is gone.
-        let is_there = fs::metadata(&self.sheet.place).is_ok_and(|told| told.is_file());
-        if n == self.sheet.count() || !is_there {
+        if n == self.sheet.count() {
             return carry::recovery(self.args, &self.image);
         }
+        let anew = Anew { first: self.first, sum: sha256::hex(&self.sheet.sum) };
         let mut words: Vec<OsString> =
-            vec!["sheet".into(), "--from".into(), (n + 1).to_string().into()];
+            vec![anew.name(), "sheet".into(), "--from".into(), (n + 1).to_string().into()];
         let flags = [(self.args.json, "--json"), (self.args.raw, "--bytes")];
         words.extend(flags.iter().filter(|(given, _)| *given).map(|(_, flag)| flag.into()));
         let record = self.args.record.as_ref().map(|file| file.as_os_str().to_os_string());
@@ -379,9 +485,12 @@ impl Run<'_> {
             (false, 1) => format!("line {last} ran and stays"),
             (false, _) => format!("lines {first} to {last} ran and stay"),
         };
-        let from = |n: u32| from(&self.sheet.file, self.path, n);
+        let team = self.args.team.as_ref().map(names::file);
+        let with = self.args.record.clone().map(|file| With { file, team });
+        let from = |n: u32| from(self.sheet.named(), self.path, n, with.as_ref());
         let then = match &why {
             _ if dry => "nothing was written".into(),
+            _ if why.status() == INTERNAL => "no other was run".into(),
             _ if is_cut && n == count => "this one is the last".into(),
             _ if is_cut => format!("once this one is finished, {}", from(n + 1)),
             Failure::Refused { .. } => format!("once this one is put right, {}", from(n)),
@@ -419,6 +528,12 @@ impl Run<'_> {
             ("written", written.into()),
         ];
         fields.extend(edited::answer(wish, call, &self.disc, trial));
+        fields.push(("record", trial.turn.json(trial.after.opened.disc_end)));
         Json::Object(fields)
     }
+}
+
+/// The record as a line leaves it.
+fn record_after(trial: &Trial) -> String {
+    trial.turn.line(trial.after.opened.disc_end)
 }

@@ -1,11 +1,13 @@
 //! The text of a sheet, which people write: an edit a line, as the commands are written.
 
-use crate::failure::Outcome;
+use crate::disc::TOO_LONG;
+use crate::failure::{DATA, Failure, Outcome};
 use crate::lines;
 use crate::names::{self, ZERO};
-use crate::sheet::{Kind, Line, NAMES};
-use crate::text::{nearest, number, shown};
-use counter_sys::MOST_LINES;
+use crate::sheet::{self, Kind, Line, NAMES};
+use crate::text::{nearest, number, start_of};
+use crate::units;
+use counter_sys::{MOST_LINES, MOST_PATH};
 use std::path::Path;
 
 /// What is wrong with a line, and from which byte on.
@@ -13,8 +15,14 @@ type Wrong = (usize, String);
 
 /// The lines of the sheet that the text is of.
 pub fn read(text: &Path) -> Outcome<Vec<Line>> {
+    const WHAT: &str = "text of a sheet";
+    let bytes = lines::bytes(text, "a folder, not the text of a sheet", WHAT)?;
+    if sheet::is_one(&bytes) {
+        let why = "this is a sheet already; `counter sheet --show FILE` shows it as text";
+        return Err(Failure::error(DATA, format!("{}: {why}", names::file(text))));
+    }
     let mut found = Vec::new();
-    for (number, line) in lines::read(text, "a folder, not the text of a sheet")? {
+    for (number, line) in lines::of(text, &bytes, WHAT)? {
         let wrong = |(at, why): Wrong| lines::wrong_from(text, (number, &line), at, &why);
         if let Some(read) = read_line(&line).map_err(wrong)? {
             if found.len() == MOST_LINES {
@@ -28,7 +36,7 @@ pub fn read(text: &Path) -> Outcome<Vec<Line>> {
 
 /// A line as text, which reads back as the same.
 pub fn written(line: &Line) -> Vec<u8> {
-    let path = match is_plain(&line.path) {
+    let path = match is_plain(&line.path) && unfit(line.kind, &line.path).is_none() {
         true => names::shown(&line.path),
         false => names::quoted(&line.path),
     };
@@ -87,11 +95,36 @@ fn read_line(line: &[u8]) -> Result<Option<Line>, Wrong> {
             (Kind::Resize(size), path)
         }
     };
-    Ok(Some(Line { kind, path }))
+    match unfit(kind, &path).filter(|_| line[operands] != b'"') {
+        Some(why) => Err((operands, why)),
+        None => Ok(Some(Line { kind, path })),
+    }
+}
+
+/// What is wrong with a path that no image takes. In quotes any is taken as it is, so that every sheet has a
+/// text.
+fn unfit(kind: Kind, path: &[u8]) -> Option<String> {
+    if path.len() > MOST_PATH {
+        return Some(TOO_LONG.into());
+    }
+    let made = match kind {
+        Kind::MakeFolder => "folder",
+        Kind::Add => "file",
+        Kind::Move(_) | Kind::Resize(_) => return None,
+    };
+    let name = path.rsplit(|&b| b == b'/').next().unwrap_or_default();
+    match name {
+        b"" => Some(format!("a line names a {made} without a / at its end")),
+        b"." | b".." => Some(format!("no {made} is called {}", names::text(name))),
+        _ => [12, 13]
+            .into_iter()
+            .find_map(|number| units::trouble(name, number))
+            .map(|why| format!("no {made} is called {}: {why}", names::short(name))),
+    }
 }
 
 fn unknown(word: &[u8]) -> String {
-    let word = shown(word);
+    let word = start_of(word);
     let near = nearest(&word, NAMES.into_iter());
     let near = near.map_or(String::new(), |near| format!("; is {near} meant?"));
     format!("a line begins with mkdir, add, move or resize, and not with {word}{near}")

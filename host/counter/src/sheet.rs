@@ -3,7 +3,9 @@
 
 use crate::failure::{DATA, Failure, INTERNAL, NO_INPUT, Outcome};
 use crate::image::cannot_open;
+use crate::journal::{self, LONGEST_SHEET};
 use crate::names;
+use crate::sha256::Sum;
 use crate::text::{counted, grouped};
 use counter_sys::{
     self as counter, MOST_LINES, Memory, Record, SHEET_HEADER_SIZE, SHEET_LINE_SIZE, Stopped,
@@ -12,9 +14,6 @@ use counter_sys::{
 use std::fs::{self, File};
 use std::io::Read;
 use std::path::{Path, PathBuf};
-
-/// Most bytes of a sheet's file, above those that 1,024 lines can want.
-const LONGEST: u64 = 16 << 20;
 
 // Its lines -------------------------------------------------------------------------------
 
@@ -74,6 +73,7 @@ pub struct Sheet {
     /// As it was given, and where it lies after every link.
     pub file: PathBuf,
     pub place: PathBuf,
+    pub sum: Sum,
     bytes: Vec<u8>,
     /// Of each line the kind, and where in the bytes its path begins.
     lines: Vec<(Kind, usize)>,
@@ -88,9 +88,9 @@ impl Sheet {
         }
         let mut bytes = Vec::new();
         File::open(file)
-            .and_then(|file| file.take(LONGEST + 1).read_to_end(&mut bytes))
+            .and_then(|file| file.take(LONGEST_SHEET + 1).read_to_end(&mut bytes))
             .map_err(|e| cannot_open(file, &e))?;
-        if bytes.len() as u64 > LONGEST {
+        if bytes.len() as u64 > LONGEST_SHEET {
             let text = format!("{}: no sheet has more than 16 MiB", names::file(file));
             return Err(Failure::error(DATA, text));
         }
@@ -102,7 +102,26 @@ impl Sheet {
         };
         // One that is read from a pipe has no place.
         let place = fs::canonicalize(file).unwrap_or(file.to_path_buf());
-        Ok(Sheet { file: file.to_path_buf(), place, bytes, lines })
+        let sum = journal::sum_of_sheet(&bytes);
+        Ok(Sheet { file: file.to_path_buf(), place, sum, bytes, lines })
+    }
+
+    /// The same once more. A pipe has nothing left to read.
+    pub fn read_again(file: &Path) -> Outcome<Sheet> {
+        match fs::metadata(file) {
+            Ok(told) if !told.is_file() => {
+                let text = format!("{}: no file, to be read again", names::file(file));
+                Err(Failure::error(NO_INPUT, text))
+            }
+            _ => Sheet::read(file),
+        }
+    }
+
+    /// The name under which another program finds it, if there is one.
+    pub fn named(&self) -> Option<&Path> {
+        let is_file = |path: &Path| fs::metadata(path).is_ok_and(|told| told.is_file());
+        let mut names = [&self.file, &self.place].map(PathBuf::as_path).into_iter();
+        names.find(|path| !journal::is_of_a_run(path) && is_file(path))
     }
 
     /// How many lines it has.
@@ -127,6 +146,7 @@ pub fn holds(bytes: &[u8], lines: &[Line]) -> Outcome<()> {
     let sheet = Sheet {
         file: PathBuf::new(),
         place: PathBuf::new(),
+        sum: Sum::default(),
         bytes: bytes.to_vec(),
         lines: self::lines(bytes).unwrap_or_default(),
     };
@@ -134,6 +154,11 @@ pub fn holds(bytes: &[u8], lines: &[Line]) -> Outcome<()> {
         true => Ok(()),
         false => Err(Failure::error(INTERNAL, "a sheet that was compiled does not read back")),
     }
+}
+
+/// Whether bytes are a sheet.
+pub fn is_one(bytes: &[u8]) -> bool {
+    lines(bytes).is_ok()
 }
 
 /// What the library answers of the bytes: a sheet is checked before anything else, so of no image at all the
@@ -166,11 +191,10 @@ fn none(name: &str, bytes: &[u8], why: String) -> Failure {
     Failure::refused(30, name).because(why + text)
 }
 
-/// Whether it begins as a text does of which a sheet is made.
+/// Whether people may have written it.
 fn is_text(bytes: &[u8]) -> bool {
-    let text = bytes.strip_prefix(b"\xEF\xBB\xBF").unwrap_or(bytes).trim_ascii_start();
-    let word = text.split(|b| b.is_ascii_whitespace()).next().unwrap_or_default();
-    word.starts_with(b"#") || NAMES.iter().any(|name| word == name.as_bytes())
+    let is_read = |b: &u8| *b >= b' ' || b.is_ascii_whitespace();
+    !bytes.is_empty() && bytes.iter().all(is_read)
 }
 
 /// The lines of a sheet, each with where in the bytes its path begins; or what is wrong first.

@@ -95,13 +95,21 @@ const CUT_WRITING: &[u8] =
 const CUT_FOR_GOOD: &[u8] =
     b"counter: the image holds a part of the edit. Make room on the disk, then: counter recover IMAGE\n";
 
-/// How a signal is called.
+/// How a signal that people send is called.
 fn called(number: i32) -> &'static str {
     match number {
         SIGHUP => "a hang-up",
         SIGINT => "Ctrl-C (SIGINT)",
         SIGQUIT => "SIGQUIT",
         _ => "a kill (SIGTERM)",
+    }
+}
+
+/// The same of any signal.
+pub fn name(number: i32) -> String {
+    match SENT.contains(&number) {
+        true => called(number).into(),
+        false => format!("signal {number}"),
     }
 }
 
@@ -295,8 +303,8 @@ pub fn no_way_back() -> io::Result<()> {
 /// From here on there is a journal: if a page of the image fails, the program begins anew with these words,
 /// finishes the edit from it, and tells that as the edit would have been.
 pub fn rescue(words: Vec<OsString>) {
-    let words = [OsString::from("counter")].into_iter().chain(words);
-    let words: Result<Vec<CString>, _> = words.map(|word| CString::new(word.into_vec())).collect();
+    let words: Result<Vec<CString>, _> =
+        words.into_iter().map(|word| CString::new(word.into_vec())).collect();
     // Never given back: the handler may be using it.
     let words = words.ok().map(|words| {
         let mut words: Vec<_> =

@@ -94,7 +94,7 @@ pub fn is_number(text: &[u8]) -> bool {
 
 /// A number as the command line takes it: base ten or 0x, then K, M or G for 2^10, 2^20, 2^30.
 pub fn number(text: &[u8]) -> Result<u32, String> {
-    let shown = shown(text);
+    let shown = start_of(text);
     let (digits, base, shift) = parts(text).ok_or_else(|| {
         format!("{shown}: a number is wanted, in base ten or with 0x, with K, M or G")
     })?;
@@ -114,6 +114,15 @@ pub fn shown(bytes: &[u8]) -> String {
         }
     }
     out
+}
+
+/// The same, of which the start is enough.
+pub fn start_of(bytes: &[u8]) -> String {
+    const MOST: usize = 40;
+    match bytes.get(..MOST) {
+        Some(start) if bytes.len() > MOST => shown(start) + "...",
+        _ => shown(bytes),
+    }
 }
 
 /// The known word that is nearest to one that was typed, if it is near: one of which it is the start, or that is

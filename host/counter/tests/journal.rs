@@ -336,7 +336,7 @@ fn words_of_a_foreign_journal_are_not_obeyed() {
             [&whole[..at - 8], &len, odd.as_bytes(), &whole[at + words.len()..end - 48]].concat();
         let record = Table::of(&cut.image).record_file(2);
         let file = cut.temp.at(odd);
-        let sheet = [b"\x01\0\0\0\x02\0\0\0", odd.as_bytes()].concat();
+        let sheet = [&b"\x01\0\0\0\x02\0\0\0"[..], &[7; 32], odd.as_bytes()].concat();
         let file_of = file.as_os_str().as_encoded_bytes();
         for part in [file_of, b"", record.as_bytes(), b"", &sheet] {
             plan.extend((part.len() as u64).to_le_bytes());

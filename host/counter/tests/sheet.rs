@@ -7,6 +7,7 @@ use counter_sys::{MOST_TABLE, MOST_WORDS, Memory, TEAMS};
 use std::fs::{self, File};
 use std::io::{Read, Write};
 use std::os::unix::fs::{FileExt, OpenOptionsExt};
+use std::os::unix::process::CommandExt;
 use std::path::{Path, PathBuf};
 use std::process::{Child, Command, Stdio};
 use std::thread;
@@ -184,7 +185,7 @@ fn any_sheet_is_shown_as_a_text_that_compiles_to_the_same_lines() {
 #[test]
 fn what_is_wrong_with_a_text_is_told_with_line_and_column() {
     let temp = Temp::new();
-    let cases: [(&[u8], usize, &str); 30] = [
+    let cases: [(&[u8], usize, &str); 40] = [
         (
             b"mdkir /a",
             1,
@@ -223,6 +224,16 @@ fn what_is_wrong_with_a_text_is_told_with_line_and_column() {
         ("resize \"/表 ü\" 7".as_bytes(), 12, "ü (U+00FC) has no bytes in Shift-JIS"),
         (b"add /a\xFFb", 7, "is no UTF-8"),
         ("add /\\x95表".as_bytes(), 10, "\\x95 is a lead byte"),
+        (b"mkdir /text/", 7, "a line names a folder without a / at its end"),
+        (b"add text/", 5, "a line names a file without a / at its end"),
+        (b"mkdir /", 7, "a line names a folder without a / at its end"),
+        (b" mkdir /a/..", 8, "no folder is called .."),
+        (b"add /a\rb", 5, "no file is called a\\x0db: the byte 0x0d"),
+        (b"add /a\x1fb", 5, "no file is called a\\x1fb: the byte 0x1f"),
+        (b"add /a\\b", 5, "no file is called a\\b: it holds \\"),
+        (&[b"resize /", &[b'x'; 1024][..], b" 5"].concat(), 8, "a path has at most 1,024 bytes"),
+        (&[b'x'; 300], 1, "and not with xxxxxxxxxxxxxxxxxxxxxxxxxxxxxxxxxxxxxxxx...\n"),
+        (&[&b"move /a "[..], &[b'5'; 300]].concat(), 9, "5555555555...: above 2^32 - 1"),
     ];
     for (wrong, column, why) in cases {
         let text = [b"mkdir /text\n\n", wrong, b"\nadd /b\n"].concat();
@@ -233,6 +244,25 @@ fn what_is_wrong_with_a_text_is_told_with_line_and_column() {
         assert!(run.err.starts_with(&wanted) && run.err.contains(why), "{shown}: {}", run.err);
         assert!(!temp.at("day.sheet").exists(), "{shown}");
     }
+    // In quotes a path is taken as it is.
+    let text = b"mkdir \"/text/\"\nadd \"\"\nadd \"/a\\x0d\"\n";
+    assert_eq!(compile(&temp, text, "day.sheet", &[]).status, 0);
+    assert_eq!(show(&temp.at("day.sheet"), &[]).bytes, text);
+    // A sheet is no text, nor is what no program knows.
+    let sheet = fs::read(temp.at("day.sheet")).unwrap();
+    let run = compile(&temp, &sheet, "other.sheet", &[]);
+    assert_eq!(run.status, 65);
+    assert!(
+        run.err.contains("this is a sheet already; `counter sheet --show FILE` shows it as text"),
+        "{}",
+        run.err
+    );
+    let run = compile(&temp, &[0xFE; 5000], "other.sheet", &[]);
+    assert!(run.status == 65 && run.err.len() < 400, "{}", run.err);
+    let long = temp.at("long");
+    File::create(&long).unwrap().set_len((16 << 20) + 1).unwrap();
+    let run = support::run(&["sheet", "--compile", long.to_str().unwrap(), "x"]);
+    assert!(run.err.contains("no text of a sheet has more than 16 MiB"), "{}", run.err);
     // With --bytes a column is a byte.
     let run = compile(&temp, b"add \"\x95\x5c\x95\x5c\\y\"", "day.sheet", &["--bytes"]);
     assert!(run.err.contains("line 1, column 10: in quotes"), "{}", run.err);
@@ -298,7 +328,8 @@ fn options_that_do_not_go_together_are_told() {
         (&["--show", sheet, "--dry-run"], "--show does not go with --dry-run"),
         (&["--show", sheet, "--from", "1"], "--show does not go with --from"),
         (&["--show", sheet, "--record", "r"], "--show does not go with --record"),
-        (&["--show"], "usage: counter sheet IMAGE|--compile TEXT|--show FILE [--from LINE]"),
+        (&["--show"], "usage: counter sheet IMAGE FILE [--from LINE]"),
+        (&["--show"], ", or counter sheet --show FILE [--bytes] [--json]\n"),
         (&["--show", sheet, sheet], "usage: counter sheet "),
         (&["--compile", text], "usage: counter sheet "),
         (&["--compile"], "--compile wants the name of a file"),
@@ -307,7 +338,7 @@ fn options_that_do_not_go_together_are_told() {
         (&[image, sheet, "--from"], "--from wants the number of a line"),
         (&[image, sheet, "--from", "x"], "x: a number is wanted"),
         (&[image, sheet, "--from", "1", "--from", "1"], "--from is given twice"),
-        (&[image, sheet, "--from", "1"], "has 0 lines"),
+        (&[image, sheet, "--from", "2"], "has 0 lines"),
         (&[image, sheet, "--team", "1"], "--team is for --record FILE"),
         (&[image, sheet, "--as-is"], "sheet has no option --as-is"),
     ] {
@@ -415,7 +446,7 @@ fn what_is_no_sheet_is_told_in_words_before_anything_else() {
         assert!(told.at("detail").text().starts_with(why), "{told:?}");
     }
     // A text in the place of the sheet.
-    for text in ["mkdir /a\n", "# a day\n", "\u{feff}\n resize /a 5"] {
+    for text in ["mkdir /a\n", "# a day\n", "\u{feff}\n resize /a 5", "\tdelete /表\r\n"] {
         let run = show(&temp.write("day.txt", text.as_bytes()), &[]);
         assert_eq!(run.status, 30);
         let hint = "; it looks like the text of one, of which `counter sheet --compile TEXT FILE` makes a sheet)";
@@ -553,6 +584,16 @@ impl Stage {
         lines.collect()
     }
 
+    /// What a dry run says of them: behind each the record as it leaves it.
+    fn tried(&self, first: usize, last: usize) -> String {
+        let of = |n: usize| {
+            let after = self.temp.write("after.iso", &self.images[n]);
+            let record = Table::of(&after).record_line((n + 1 - first) as u64);
+            self.said(n, n) + &format!("line {n}: {record}")
+        };
+        (first..=last).map(of).collect()
+    }
+
     /// What is said of table and record after line `last`, if line `first` was the first.
     fn left(&self, first: usize, last: usize) -> String {
         let size = |n: usize| u64::from(get(&self.images[n], 0x428));
@@ -588,8 +629,9 @@ fn a_run_is_its_lines_one_after_another() {
     let run = stage.run(&["--dry-run"]);
     assert_eq!((run.status, run.err.as_str()), (0, ""));
     assert_eq!(State::of(&stage.image), before);
+    let tried = stage.tried(1, count) + &stage.left(1, count);
+    assert_eq!(run.out, dry(&tried) + "dry run: all this would be done; nothing was written\n");
     let said = stage.said(1, count) + &stage.left(1, count);
-    assert_eq!(run.out, dry(&said) + "dry run: all this would be done; nothing was written\n");
     let run = stage.run(&[]);
     assert_eq!((run.status, run.err.as_str()), (0, ""));
     assert_eq!(run.out, said + "done: 9 lines, written and synced\n");
@@ -779,7 +821,11 @@ fn any_sheet_does_what_the_library_makes_of_it_at_once() {
             assert_eq!(why(&run.err), why(&dry.err));
         }
         let said = run.out.lines().filter(|line| !line.starts_with("done: "));
-        let told = dry.out.lines().filter(|line| !line.starts_with("dry run: all this"));
+        let is_record =
+            |line: &&str| line.starts_with("dry run: line ") && line.contains(": used ");
+        assert_eq!(dry.out.lines().filter(is_record).count() as u32, last - 1);
+        let told = dry.out.lines().filter(|line| !is_record(line));
+        let told = told.filter(|line| !line.starts_with("dry run: all this"));
         assert!(said.map(|line| format!("dry run: {line}")).eq(told), "{}{}", run.out, dry.out);
         assert!(fs::read(&image).unwrap() == whole, "{last} {}", run.err);
         let edits = kept.teams[0].edits;
@@ -815,13 +861,14 @@ fn the_first_line_that_is_refused_ends_the_sheet() {
     assert_eq!(run.status, 20);
     assert_eq!(run.err, format!("counter: {why}; lines 1 to 7 would run; nothing was written\n"));
     let said = stage.said(1, 7) + &stage.left(1, 7);
-    assert_eq!(run.out, dry(&said));
+    assert_eq!(run.out, dry(&(stage.tried(1, 7) + &stage.left(1, 7))));
     assert_eq!(State::of(&stage.image), before);
     assert_eq!(fs::read_to_string(&record).unwrap(), stage.records[0]);
 
     let run = stage.run(&["--record", name]);
-    let next =
-        format!("once this one is put right, go on with `counter sheet {image} {shown} --from 8`");
+    let next = format!(
+        "once this one is put right, go on with `counter sheet {image} {shown} --from 8 --record {name}`"
+    );
     assert_eq!(run.err, format!("counter: {why}; lines 1 to 7 ran and stay; {next}\n"));
     assert_eq!((run.status, run.out), (20, said));
     stage.is_at(7);
@@ -871,6 +918,7 @@ fn a_line_is_refused_as_the_rules_say() {
         (line(1, "", 0, 0), 13, "mkdir \"\": refused 13: unsafe or empty name (it is empty)"),
         (line(1, "/", 0, 0), 13, "(it is empty)"),
         (line(1, "/d/", 0, 0), 18, "(there is no folder /d;"),
+        (line(1, "/../q", 0, 0), 18, "(a path begins at the root, and nothing is above it)"),
         (line(1, "/..", 0, 0), 13, "no entry is called .."),
         (line(1, "a\\b", 0, 0), 13, "(it holds \\)"),
         (line(1, b"\x83/q", 0, 0), 18, "(there is no folder \\x83;"),
@@ -1051,7 +1099,7 @@ fn master() -> Vec<u8> {
 }
 
 /// What is told of the line that was finished: its number.
-fn finished(stage: &Stage, told: &str) -> usize {
+fn finished(stage: &Stage, told: &str, record: Option<&Path>) -> usize {
     let before = format!("finished an edit that was cut: {}, line ", stage.sheet.display());
     let rest = told.split(&before).nth(1).unwrap_or_else(|| panic!("{told}"));
     let (n, rest) = rest.split_once(&format!(" of {}: ", stage.count())).unwrap();
@@ -1063,7 +1111,9 @@ fn finished(stage: &Stage, told: &str) -> usize {
     match n == stage.count() {
         true => assert!(told.contains("that was the last line of the sheet"), "{told}"),
         false => {
-            let next = format!("go on with `counter sheet {image} {sheet} --from {}`", n + 1);
+            let record = record.map(|record| format!(" --record {}", record.display()));
+            let rest = format!("{}{}", n + 1, record.unwrap_or_default());
+            let next = format!("go on with `counter sheet {image} {sheet} --from {rest}`");
             assert!(told.contains(&next), "{told}");
         }
     }
@@ -1115,12 +1165,12 @@ fn goes_on(stage: &Stage, record: Option<&Path>, found: &Found, turn: usize) -> 
         // Before the first line, or behind the last one.
         if found.image == stage.images[0] { 0 } else { count }
     } else if turn.is_multiple_of(2) {
-        finished(stage, &done("recover", &stage.image, &[]))
+        finished(stage, &done("recover", &stage.image, &[]), record)
     } else {
         // The sheet itself finishes the line, and begins with no other that might have been run.
         let run = stage.run(&rest);
         assert_eq!(run.status, 64, "{}{}", run.out, run.err);
-        let n = finished(stage, &run.err);
+        let n = finished(stage, &run.err, record);
         let told =
             format!("line {n} of {count} was cut and is finished now, and nothing more was done; ");
         assert!(run.err.contains(&told), "{}", run.err);
@@ -1180,7 +1230,7 @@ fn cut_everywhere(text: &str, with_record: bool, seed: u64) {
         lay(&stage, record, found);
         let (run, steps) = logged(&stage, &["recover"]);
         assert_eq!(run.status, 0, "{}", run.err);
-        let at = finished(&stage, &run.out);
+        let at = finished(&stage, &run.out, record);
         // The record is as the cut left it.
         let mut start = found.clone();
         if found.own_journal().is_some() {
@@ -1242,7 +1292,7 @@ fn a_disk_that_is_full_at_any_step_ends_the_sheet_between_two_lines() {
         }
         let mut at = (0..=3).find(|&n| fs::read(&stage.image).unwrap() == stage.images[n]);
         if run.status == 78 {
-            at = Some(finished(&stage, &done("recover", &stage.image, &[])));
+            at = Some(finished(&stage, &done("recover", &stage.image, &[]), Some(&record)));
         }
         let at = at.unwrap_or_else(|| panic!("{step}: {}", run.err));
         stage.is_at(at);
@@ -1251,7 +1301,7 @@ fn a_disk_that_is_full_at_any_step_ends_the_sheet_between_two_lines() {
         // The program began anew, on a disk that had room again.
         assert!(run.status != 0 || at == 3, "{step}: {}", run.err);
         if run.status != 0 && at < 3 {
-            let next = format!(" --from {}`", at + 1);
+            let next = format!(" --from {} --record {name}`", at + 1);
             assert!(run.err.contains(&next), "{step}: {}", run.err);
             let run = stage.run(&["--from", &(at + 1).to_string(), "--record", name]);
             assert_eq!(run.status, 0, "{step}: {}", run.err);
@@ -1290,7 +1340,7 @@ fn a_sheet_that_is_killed_goes_on() {
         send(&child, SIGKILL);
         child.wait().unwrap();
         let at = match journal_of(&stage.image).exists() {
-            true => finished(&stage, &done("recover", &stage.image, &[])),
+            true => finished(&stage, &done("recover", &stage.image, &[]), Some(&record)),
             false if fs::read(&stage.image).unwrap() == stage.images[0] => 0,
             false => 12,
         };
@@ -1366,8 +1416,7 @@ fn wait_for_output(child: &mut Child, lines: usize) {
 /// goes on.
 #[test]
 fn the_line_that_was_cut_is_told_by_every_command() {
-    let text = "add /d/new.bin\nmove /film 0x20000\nresize /far 0x1001\n";
-    let stage = Stage::new(Temp::in_memory(), &master(), text);
+    let stage = Stage::new(Temp::in_memory(), &master(), THREE);
     let cut = || {
         stage.reset(0);
         // Line 1. Journal: create, write, sync. The call. Sync. Line 2. Journal: the same. Image: write,
@@ -1433,7 +1482,7 @@ fn the_line_that_was_cut_is_told_by_every_command() {
     let run = stage.run(&[]);
     assert_eq!(run.status, 64, "{}", run.err);
     assert!(
-        run.err.contains("go on with --from 3; --from 1 would run all lines again"),
+        run.err.contains("--from 3 goes on; --from 1 would run all lines again"),
         "{}",
         run.err
     );
@@ -1445,6 +1494,218 @@ fn the_line_that_was_cut_is_told_by_every_command() {
     assert_eq!(run.status, 0, "{}", run.err);
     assert!(run.err.contains("finished an edit that was cut"), "{}", run.err);
     stage.is_at(3);
+}
+
+/// Cut in its second line of three, with nothing told.
+fn cut_in_two(stage: &Stage, rest: &[&str]) {
+    stage.reset(0);
+    let mut command = program();
+    command.arg("sheet").arg(&stage.image).args(args_of(&stage.sheet, rest));
+    let run: Run = command.env("COUNTER_FULL_FROM", "14").output().unwrap().into();
+    assert_eq!(run.status, 78, "{}", run.err);
+}
+
+const THREE: &str = "add /d/new.bin\nmove /film 0x20000\nresize /far 0x1001\n";
+
+/// Under any name it is the same sheet, and another one under its name is not.
+#[test]
+fn a_sheet_is_known_by_its_bytes() {
+    let stage = Stage::new(Temp::in_memory(), &master(), THREE);
+    let bytes = fs::read(&stage.sheet).unwrap();
+    let same = |run: Run, why: &str| {
+        assert_eq!((run.status, run.out.lines().count()), (64, 0), "{}", run.err);
+        assert!(run.err.contains(why), "{}", run.err);
+        stage.is_at(2);
+    };
+    let was_cut =
+        "line 2 of 3 was cut and is finished now, and nothing more was done; --from 3 goes on";
+    let (copy, link) = (stage.temp.write("copy", &bytes), stage.temp.at("link"));
+    std::os::unix::fs::symlink(&stage.sheet, &link).unwrap();
+    for sheet in [&copy, &link] {
+        cut_in_two(&stage, &[]);
+        same(on("sheet", &stage.image, &args_of(sheet, &[])), was_cut);
+    }
+    cut_in_two(&stage, &[]);
+    let mut command = program();
+    command.arg("sheet").arg(&stage.image).arg("/dev/stdin").stdin(Stdio::piped());
+    let mut child = command.stdout(Stdio::piped()).stderr(Stdio::piped()).spawn().unwrap();
+    child.stdin.take().unwrap().write_all(&bytes).unwrap();
+    same(child.wait_with_output().unwrap().into(), was_cut);
+    // With the line that was finished just now.
+    cut_in_two(&stage, &[]);
+    same(stage.run(&["--from", "2"]), "line 2 is done; --from 3 goes on; nothing more was done");
+    cut_in_two(&stage, &[]);
+    let run = stage.run(&["--json"]);
+    let told = Json::read(&run.out);
+    let number = |name: &str| told.at(name).number();
+    assert_eq!(["status", "line", "from", "lines", "ran"].map(number), [64, 2, 3, 3, 0]);
+    assert!(told.at("finished").text().contains("line 2 of 3: move /film to 0x20000"));
+
+    // Another sheet under its name: it is run as any other, and nobody is told to go on with it.
+    cut_in_two(&stage, &[]);
+    fs::write(&stage.sheet, sheet_of(&[line_of("/y")])).unwrap();
+    let other = format!("line 2 of 3 of another sheet that was at {}: ", stage.sheet.display());
+    let run = on("list", &stage.image, &[]);
+    assert!(run.status == 78 && run.err.contains(&other), "{}", run.err);
+    let run = stage.run(&[]);
+    assert_eq!(run.status, 0, "{}", run.err);
+    assert!(run.err.contains(&other) && !run.err.contains("go on with"), "{}", run.err);
+    for (is_gone, why) in [
+        (false, "of that sheet, which is not there any more, line 3 is the next"),
+        (true, "day.sheet is not there any more, of which line 3 is the next"),
+    ] {
+        for is_json in [false, true] {
+            fs::write(&stage.sheet, &bytes).unwrap();
+            cut_in_two(&stage, &[]);
+            match is_gone {
+                true => fs::remove_file(&stage.sheet).unwrap(),
+                false => fs::write(&stage.sheet, sheet_of(&[])).unwrap(),
+            }
+            if is_json {
+                let told = json("recover", &stage.image, &[]);
+                assert!(!told.at("sheet").at("there").flag());
+                continue;
+            }
+            if is_gone {
+                // Nothing is finished without a sheet, and it is told what does it.
+                let run = stage.run(&[]);
+                assert_eq!(run.status, 66, "{}", run.err);
+                let recover = format!("`counter recover {}` finishes it", stage.image.display());
+                assert!(run.err.contains(&recover) && journal_of(&stage.image).exists());
+            }
+            let out = done("recover", &stage.image, &[]);
+            assert!(out.contains(why) && !out.contains("go on with"), "{out}");
+            stage.is_at(2);
+        }
+    }
+}
+
+/// What the program does that begins anew in the midst of line 2: by its own name it knows the sheet, and goes on
+/// with no other.
+#[test]
+fn after_a_failing_page_the_same_sheet_goes_on() {
+    let stage = Stage::new(Temp::in_memory(), &master(), THREE);
+    let sum = Command::new("sha256sum").arg(&stage.sheet).output().unwrap().stdout;
+    let name = format!("counter:1:{}", str::from_utf8(&sum[..64]).unwrap());
+    let bytes = fs::read(&stage.sheet).unwrap();
+    let anew = |sheet: &Path| -> Run {
+        let mut command = program();
+        command.arg0(&name).args(["sheet", "--from", "3", "--json", "--"]);
+        command.args([&stage.image, sheet]).output().unwrap().into()
+    };
+    cut_in_two(&stage, &[]);
+    let run = anew(&stage.sheet);
+    assert_eq!(run.status, 0, "{}", run.err);
+    assert!(!run.err.contains("go on with"), "{}", run.err);
+    let told = Json::read(&run.out);
+    assert_eq!(["from", "ran"].map(|name| told.at(name).number()), [1, 3]);
+    assert!(told.at("written").flag());
+    stage.is_at(3);
+    for (at, why) in [
+        (Some(sheet_of(&[])), "another sheet is there now; line 2 is done, and no other was run"),
+        (Some(vec![]), "it has 0 bytes"),
+        (None, "no such file; line 2 is done, and no other was run"),
+    ] {
+        fs::write(&stage.sheet, &bytes).unwrap();
+        cut_in_two(&stage, &[]);
+        match &at {
+            Some(bytes) => fs::write(&stage.sheet, bytes).unwrap(),
+            None => fs::remove_file(&stage.sheet).unwrap(),
+        }
+        let run = anew(&stage.sheet);
+        assert_eq!(run.status, 66, "{}", run.err);
+        assert!(run.err.contains(why), "{}", run.err);
+        assert_eq!(Json::read(&run.out).at("line").number(), 2);
+        stage.is_at(2);
+    }
+    fs::write(&stage.sheet, &bytes).unwrap();
+    cut_in_two(&stage, &[]);
+    let run = anew(Path::new("/dev/stdin"));
+    assert_eq!(run.status, 66, "{}", run.err);
+    assert!(
+        run.err.contains("/dev/stdin: no file, to be read again; line 2 is done"),
+        "{}",
+        run.err
+    );
+    stage.is_at(2);
+    // Wherever the disk is full, or a page fails on one that has room again, the answer has the line.
+    let mut seen = Vec::new();
+    for step in 1.. {
+        stage.reset(0);
+        let _ = fs::remove_file(journal_of(&stage.image));
+        let mut command = program();
+        command.arg("sheet").arg(&stage.image).args(args_of(&stage.sheet, &["--json"]));
+        let run: Run = command.env("COUNTER_FULL_FROM", step.to_string()).output().unwrap().into();
+        let is_anew = run.err.contains("failed or is full in the midst");
+        let told = Json::read(&run.out);
+        match run.status {
+            0 if !is_anew => break,
+            0 if told.at("edit").text() == "recover" => {
+                assert_eq!(told.at("sheet").at("line").number(), 3);
+            }
+            0 => assert_eq!(["from", "ran"].map(|name| told.at(name).number()), [1, 3]),
+            _ => assert!((1..=3).contains(&told.at("line").number()), "{}", run.out),
+        }
+        seen.push((run.status, is_anew));
+        if run.status == 78 {
+            done("recover", &stage.image, &[]);
+        }
+    }
+    assert!(seen.contains(&(0, true)) && seen.contains(&(78, false)), "{seen:?}");
+}
+
+/// The command that is told goes on as it stands, with the record and the team, whatever the files are called.
+#[test]
+fn the_command_that_is_told_can_be_pasted() {
+    let temp = Temp::in_memory();
+    temp.write("my disc.iso", &master());
+    temp.write(
+        "-day's",
+        &fs::read(compiled(&temp, "mkdir /e\nmkdir /d/no/x\nmkdir /f\n")).unwrap(),
+    );
+    temp.write("teams", b"0 none 0 Red and blue\n1 none 0 Green\n");
+    let sh = |command: &str| -> Run {
+        let all = format!("counter() {{ {} \"$@\"; }}; {command}", env!("CARGO_BIN_EXE_counter"));
+        let mut sh = Command::new("sh");
+        sh.args(["-c", &all]).current_dir(temp.at("")).env("LC_ALL", "C.UTF-8");
+        sh.stdin(Stdio::null()).output().unwrap().into()
+    };
+    let told = |err: &str| {
+        let rest = err.split("go on with ").nth(1).unwrap_or_else(|| panic!("{err}"));
+        rest.split('`').nth(1).unwrap().to_string()
+    };
+    let run = sh("counter record 'my disc.iso' --record '-r 1' --teams teams");
+    assert_eq!(run.status, 0, "{}", run.err);
+    let run = sh("counter sheet --record '-r 1' --team 'Red and blue' -- 'my disc.iso' \"-day's\"");
+    assert_eq!(run.status, 18, "{}", run.err);
+    let wanted = "counter sheet --from 2 --record '-r 1' --team 'Red and blue' -- 'my disc.iso' '-day'\\''s'";
+    assert_eq!(told(&run.err), wanted);
+    assert_eq!(sh("counter mkdir 'my disc.iso' /d/no --record '-r 1' --team 1").status, 0);
+    let run = sh(wanted);
+    assert_eq!(run.status, 0, "{}", run.err);
+    // As recovery tells it.
+    temp.write("my disc.iso", &master());
+    temp.write("-day's", &fs::read(compiled(&temp, THREE)).unwrap());
+    assert_eq!(sh("counter record 'my disc.iso' --record '-r 1' --teams teams --force").status, 0);
+    let run = sh("COUNTER_FULL_FROM=20; export COUNTER_FULL_FROM; \
+         counter sheet --record '-r 1' --team Green -- 'my disc.iso' \"-day's\"");
+    assert_eq!(run.status, 78, "{}", run.err);
+    let next = told(&sh("counter recover 'my disc.iso'").out);
+    let record = format!(" --record '{}' --team 1", temp.at("-r 1").display());
+    assert!(next.contains("--from ") && next.contains(&record), "{next}");
+    let run = sh(&next);
+    assert_eq!(run.status, 0, "{}", run.err);
+    let green = sh("counter record -- '-r 1'").out;
+    assert!(green.contains("Green") && green.contains("edits 3"), "{green}");
+    // Of a pipe no name is told.
+    temp.write("disc.iso", &master());
+    let run =
+        sh("cat './-day'\\''s' | (export COUNTER_FULL_FROM=14; counter sheet disc.iso /dev/stdin)");
+    assert_eq!(run.status, 78, "{}", run.err);
+    let next = "go on with the same sheet: `counter sheet disc.iso FILE --from 3`";
+    assert!(run.err.contains(next), "{}", run.err);
+    let out = sh("counter recover disc.iso").out;
+    assert!(out.contains(next), "{out}");
 }
 
 fn line_of(path: &str) -> Line {
@@ -1512,7 +1773,7 @@ fn a_long_sheet_shows_its_progress_on_a_terminal() {
         drain(&mut log);
         thread::sleep(Duration::from_millis(1));
     }
-    let shown = wait_for("--from 2`");
+    let shown = wait_for("--from 2 --record ");
     assert!(shown.contains("line 2 of 3: ") && shown.contains("line 1 ran and stays"), "{shown}");
     assert_eq!(Run::from(child.wait_with_output().unwrap()).signal, Some(SIGINT));
     assert!(fs::read(&image).unwrap() == fs::read(&single).unwrap());

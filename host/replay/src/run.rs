@@ -342,8 +342,8 @@ impl Stage {
         Ok(given)
     }
 
-    /// The text is the sheet. What a refused one leaves of image and record is the script's to say, but for one that no
-    /// line of has run.
+    /// The text is the sheet. What a refused one leaves of image and record is the script's to say, but for one of
+    /// which no line has run.
     fn sheet(&mut self, text: &[u8], l: &mut Lent) -> Result<Given, String> {
         let (fresh, taken, team) = self.taken()?;
         let (mut record, sheet) = (Guarded::of(&taken.slots()), Guarded::of(text));

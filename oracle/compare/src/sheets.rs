@@ -932,7 +932,7 @@ impl Run {
         let told =
             if image.len() <= TOLD { format!("ok {}", hex(&ran.image)) } else { hash(&ran.image) };
         if probe[at.image] != told {
-            self.report_sheet("the image behind a sheet", image, given, &probe[at.answer], &due);
+            self.report_sheet("the image behind a sheet", image, given, &probe[at.image], &told);
             return false;
         }
         self.count_answer("sheet", due.rsplit_once(' ').map_or("ok", |(number, _)| number));

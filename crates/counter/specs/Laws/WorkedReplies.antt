@@ -138,7 +138,8 @@ span-slots = (refl, refl)
 done-number : (done_number (Ok tt) 1 ≡ 0) × (done_number (Err NotEnoughSpace) 1 ≡ 21)
 done-number = (refl, refl)
 
--- "line[1] ..: the number of that line, from 1; 0 where all ran, and for a refusal before the first."
+-- "line[1] ..: the number of that line, from 1; 0 where all ran, and for a refusal before the
+-- first."
 sheet-slots :
     (sheet_reply (Ok tt) ≡ reply 0 (0 ∷ [])) ×
     (sheet_reply (Err (record { line = 2; cause = NotFound })) ≡ reply 18 (2 ∷ [])) ×

@@ -103,7 +103,8 @@ pub record IsAccountedFor (p : Plan) (image : List ℕ) (words room : ℕ) (byte
 
 -- x is that of each image that means the disc
 abbrev pub IsEntered : Plan → Opened → ℕ → List ℕ → List ℕ → Account → Accounted → Type 0
-IsEntered p d room bytes clip a x = (image : List ℕ) → Means image d → IsAccountedFor p image d.words room bytes clip a x
+IsEntered p d room bytes clip a x =
+    (image : List ℕ) → Means image d → IsAccountedFor p image d.words room bytes clip a x
 
 -- r is decided on so, with a table drafted in some bytes and the record moved on, where neither was
 pub record IsForeseen (p : Plan) (image : List ℕ) (words room : ℕ) (a : Account) (r : Result Decision Refusal) : Type 0 where

@@ -1,12 +1,12 @@
 -- What is written reads back: header, lines, paths. Assumes nothing.
 use Rattle.std.specs.Prelude.{ℕ, suc, ◌+◌, ◌*◌, ◌^◌, ◌<◌, ◌≤◌, ◌≡◌, Ok, refl, true, List, [], ◌∷◌, ◌++◌, length, drop}
 use Rattle.std.specs.List.{All}
-use Rattle.std.proofs.Common.{sym, ap, ◌∙◌, arith, add-zero, append_assoc, length-append, drop-drop}
-use Rattle.std.proofs.Math.Seq.{drop-append-add}
+use Rattle.std.proofs.Common.{sym, ap, ◌∙◌, arith, add-zero, append_assoc, length-append}
 use Rattle.std.proofs.lemmas.List.{take_all}
 use borrow.Author.Tests.{le-leb}
 use Rattle.endian.specs.Bytes.{be32}
 use Rattle.endian.specs.Laws.Stored.{be32-drop, be32-value}
+use Rattle.tree.proofs.Laws.WrittenEntries.{drop_past}
 use Rattle.sheet.specs.Layout.{Line, make_directory, make_file, move, resize, path_of, line_count, lines_offset, texts_offset, texts_length, has_good_header, texts_of, line_at, lines_from, sheet_lines}
 use Rattle.sheet.specs.Theorem.{ReadsBack}
 use Rattle.sheet.specs.Written.{kind_of, new_offset, new_size, line_bytes, lines_bytes, texts_bytes, sheet_with, IsWritable}
@@ -43,9 +43,6 @@ length-lines_bytes : (o : ℕ) (lines : List Line) → length (lines_bytes o lin
 unfolding lines_bytes
 length-lines_bytes o [] = refl
 length-lines_bytes o (line ∷ lines) = omega (arith, length-lines_bytes (o + (length (path_of line) + 1)) lines)
-
-drop_past : (n m : ℕ) (s p q : List ℕ) → drop n s ≡ p ++ q → n + length p ≡ m → drop m s ≡ q
-drop_past n m s p q e h = rw (← h, ← drop-drop (length p) n s, e) (rw (← add-zero (length p)) (drop-append-add p q 0))
 
 lines-back : (texts bytes : List ℕ) (at o : ℕ) (lines : List Line) (r : List ℕ) → drop at bytes ≡ lines_bytes o lines ++ r → drop o texts ≡ texts_bytes lines →
     o + length (texts_bytes lines) < 2 ^ 32 → All IsWritable lines → lines_from texts bytes at (length lines) ≡ Ok lines

@@ -15,7 +15,7 @@ use Rattle.sheet_run.specs.Run.{Run, stopped_at, run_found, run_judged, run_line
 use Rattle.sheet_run.specs.Theorem.{line_verdict, LineRan, RunsInTurn, LinesInTurn}
 use Rattle.sheet_run.proofs.Laws.Orders.{started}
 
-same-some : {A : Type 0} {x y : A} → Some x ≡ Some y → x ≡ y
+pub same-some : {A : Type 0} {x y : A} → Some x ≡ Some y → x ≡ y
 same-some e = cc
 
 -- a line in front of others

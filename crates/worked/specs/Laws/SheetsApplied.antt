@@ -24,7 +24,7 @@ use Rattle.sheet_run.specs.Run.{Run, stopped_at, run_lines, sheet_run}
 use Rattle.sheet_run.specs.Theorem.{line_verdict, LineRan, LineStopped, RunsInTurn, run_behind, answer_on, counted_on, loan_after}
 use Rattle.sheet_run.proofs.Laws.BadLineAnywhere.{bad-line-anywhere}
 use Rattle.sheet_run.proofs.Laws.InParts.{in-parts}
-use Rattle.sheet_run.proofs.Laws.LinesInTurn.{lines-in-turn}
+use Rattle.sheet_run.proofs.Laws.LinesInTurn.{same-some, lines-in-turn}
 use Rattle.worked.specs.Image.{master, master_words}
 use Rattle.worked.specs.Laws.Applied.{bytes_only, bytes-only}
 use Rattle.worked.specs.Laws.SheetImages.{with_x, at-master, at-x}
@@ -35,9 +35,6 @@ use Rattle.worked.specs.Laws.Sheets.{lent, run, run_of, runs, call, stopped, lin
 -- the directory `x`, in it the file `f`, and `a` twice as large
 abbrev lines : List Line
 lines = make_directory x ∷ make_file x/f ∷ resize a 0x200 ∷ []
-
-same-some : {A : Type 0} {y z : A} → Some y ≡ Some z → y ≡ z
-same-some e = cc
 
 -- ---- checked whole
 
