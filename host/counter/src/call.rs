@@ -146,14 +146,10 @@ pub enum What<'a> {
     Nothing,
 }
 
-impl<'a> Call<'a> {
-    pub fn new(wish: &'a Wish, image: &Image, desk: &mut Desk) -> Outcome<Call<'a>> {
-        let mut find = |path: &[u8]| {
-            counter::lookup(image.bytes(), &mut desk.lend(), 0, path)
-                .map(|entry| entry.number())
-                .map_err(|refused| no_path(image, desk, refused, path))
-        };
-        let what = match wish {
+impl<'a> What<'a> {
+    /// What is wished for, with paths looked up by `find`; a place that is not known yet is 0.
+    fn of<E>(wish: &'a Wish, mut find: impl FnMut(&[u8]) -> Result<u32, E>) -> Result<What<'a>, E> {
+        Ok(match wish {
             Wish::MakeFolders(path) => What::MakeFolders(path),
             Wish::MakeFolder(path) => {
                 let (folder, name) = cut(path);
@@ -164,42 +160,43 @@ impl<'a> Call<'a> {
                 What::Insert(find(folder)?, name)
             }
             Wish::Move(path, to) => What::Move(find(path)?, *to),
-            Wish::MoveAway(path) => {
-                let at = find(path)?;
-                let place = place_for(at, image, desk).map_err(|number| refused(wish, number))?;
-                What::Move(at, place)
-            }
+            Wish::MoveAway(path) => What::Move(find(path)?, 0),
             Wish::Resize(path, to) => What::Resize(find(path)?, *to),
             Wish::Fill(path, clip) => What::Fill(find(path)?, clip.zeros()),
             Wish::Rewrite => What::Rewrite,
             Wish::Maximum(to) => What::Maximum(*to),
+        })
+    }
+}
+
+impl<'a> Call<'a> {
+    pub fn new(wish: &'a Wish, image: &Image, desk: &mut Desk) -> Outcome<Call<'a>> {
+        let find = |path: &[u8]| {
+            counter::lookup(image.bytes(), &mut desk.lend(), 0, path)
+                .map(|entry| entry.number())
+                .map_err(|refused| no_path(image, desk, refused, path))
         };
+        let mut what = What::of(wish, find)?;
+        if let (Wish::MoveAway(_), What::Move(at, place)) = (wish, &mut what) {
+            *place = place_for(*at, image, desk).map_err(|number| refused(wish, number))?;
+        }
         Ok(Call { what, line: None })
     }
 
     /// The same of a line of a sheet, of which `alone` is the sheet that it makes by itself.
     pub fn of_line(wish: &'a Wish, alone: &'a [u8], image: &Image, desk: &mut Desk) -> Call<'a> {
-        let mut find = |path: &[u8]| counter::lookup(image.bytes(), &mut desk.lend(), 0, path).ok();
         let mut new = None;
-        let what = match wish {
-            Wish::MakeFolder(path) | Wish::Add(path) => {
-                let (folder, name) = cut(path);
-                find(folder).map(|folder| {
-                    if let Entry::Directory { next, .. } = folder {
-                        // Behind all that the folder holds.
-                        new = Some(next);
-                    }
-                    match wish {
-                        Wish::Add(_) => What::Insert(folder.number(), name),
-                        _ => What::InsertFolder(folder.number(), name),
-                    }
-                })
-            }
-            Wish::Move(path, to) => find(path).map(|found| What::Move(found.number(), *to)),
-            Wish::Resize(path, to) => find(path).map(|found| What::Resize(found.number(), *to)),
-            _ => None,
+        let find = |path: &[u8]| {
+            counter::lookup(image.bytes(), &mut desk.lend(), 0, path).map(|found| {
+                if let Entry::Directory { next, .. } = found {
+                    // Behind all that the folder holds.
+                    new = Some(next);
+                }
+                found.number()
+            })
         };
-        Call { what: what.unwrap_or(What::Nothing), line: Some(Alone { sheet: alone, new }) }
+        let what = What::of(wish, find).unwrap_or(What::Nothing);
+        Call { what, line: Some(Alone { sheet: alone, new }) }
     }
 
     /// Whether it is a line of a sheet.

@@ -1084,18 +1084,7 @@ fn master() -> Vec<u8> {
         folder("d", vec![file("song", 0xC000, 0x2001)]),
         file("far", 0x3_8000, 0x1800),
     ];
-    let mut table = table(&entries);
-    table.extend([b'x', b'x', 0]);
-    let mut image = vec![0; END as usize];
-    pattern(&mut image, 79);
-    image[..0x440].fill(0);
-    put(&mut image, 0x1C, 0xC233_9F3D);
-    put_program(&mut image, 0x600, 0, 0);
-    put(&mut image, 0x424, 0x440);
-    put(&mut image, 0x428, table.len() as u32);
-    put(&mut image, 0x434, END);
-    image[0x440..0x440 + table.len()].copy_from_slice(&table);
-    image
+    program_master(&entries, END, 79)
 }
 
 /// What is told of the line that was finished: its number.

@@ -325,6 +325,23 @@ pub fn program_to(path: &Path, at: u32) {
     file.write_all_at(&at.to_be_bytes(), 0x420).unwrap();
 }
 
+/// A disc of `end` bytes with these entries, slack behind their names and an empty program before the table; what is
+/// free holds a pattern.
+pub fn program_master(entries: &[Wish], end: u32, seed: u32) -> Vec<u8> {
+    let mut table = table(entries);
+    table.extend([b'x', b'x', 0]);
+    let mut image = vec![0; end as usize];
+    pattern(&mut image, seed);
+    image[..0x440].fill(0);
+    put(&mut image, 0x1C, 0xC233_9F3D);
+    put_program(&mut image, 0x600, 0, 0);
+    put(&mut image, 0x424, 0x440);
+    put(&mut image, 0x428, table.len() as u32);
+    put(&mut image, 0x434, end);
+    image[0x440..0x440 + table.len()].copy_from_slice(&table);
+    image
+}
+
 /// A program at `at` with one section, the first text: its offset in the program, and its size.
 pub fn put_program(image: &mut [u8], at: usize, offset: u32, size: u32) {
     put(image, 0x420, at as u32);
