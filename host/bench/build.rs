@@ -18,12 +18,13 @@ use std::process::Command;
 /// Where a function may begin: at these multiples of 16 behind a multiple of 64.
 const PLACES: usize = 4;
 
-/// The calls that an earlier library is held against.
-const CALLS: [&str; 17] = [
+/// The calls that are timed at four places.
+const CALLS: [&str; 18] = [
     "open",
     "totals",
     "lookup",
     "make_record",
+    "clear",
     "insert_file",
     "insert_directory",
     "make_directories",

@@ -70,6 +70,7 @@ extern "C" {
 #define COUNTER_CLUSTER_WORDS 3
 #define COUNTER_CLUSTER_SIZE 0x8000
 #define COUNTER_ALLOCATE_SLOTS 2
+#define COUNTER_CLEAR_SLOTS 4
 #define COUNTER_DOL_SLOTS 57
 #define COUNTER_WINDOW_SLOTS 3
 #define COUNTER_TEAMS 16
@@ -242,6 +243,17 @@ uint32_t counter_max_file_size(const uint8_t *image, size_t image_len, uint32_t 
  * free multiple of it starts that many free bytes. answer[2]: offset, size. */
 uint32_t counter_allocate(const uint8_t *image, size_t image_len, uint32_t *words, size_t words_len, uint32_t size, uint32_t align,
     uint32_t answer[COUNTER_ALLOCATE_SLOTS]);
+
+/* Where the least has to be moved away for `size` bytes in a row. A run is so many bytes between the table's end and the disc end, with no
+ * byte of the program. It costs the sizes of the files that have a byte of it, each file whole; an empty file has none. The candidates are
+ * the runs that start where a used region ends, rising: at the table's end, and behind each file that is not empty and a program behind the
+ * table. The first `budget` of them are tried. 21, whatever the budget, exactly if size is 0 or no start at all gives a run.
+ *
+ * answer[4]: how many were tried; where the cheapest of them starts, of equals the first; its cost; and a bound, so that no run costs less
+ * than cost - bound, wherever it starts. The bound is 0 if all candidates were tried, and else cost - floor: the floor is 0 if some free
+ * region has `size` bytes, else the greater of size - all free bytes and 1. All four are 0 if none was tried, for a budget of 0. */
+uint32_t counter_clear(const uint8_t *image, size_t image_len, uint32_t *words, size_t words_len, uint32_t size, uint32_t budget,
+    uint32_t answer[COUNTER_CLEAR_SLOTS]);
 
 /* ---- windows: three slots of 64 bits, start, length and position, which the caller may also fill by himself */
 

@@ -25,6 +25,7 @@ use Rattle.totals.specs.declared.team.Team.{Team}
 use Rattle.totals.specs.declared.Totals.{Totals}
 use Rattle.executable.specs.Program.{Program}
 use Rattle.window.specs.declared.Window.{Window}
+use Rattle.clearing.specs.declared.clear.CheapestRun.{CheapestRun}
 use Rattle.edit_rules.specs.Edits.{number_behind}
 use Rattle.steps.specs.Promise.{span_behind}
 use Rattle.sheet_run.specs.declared.run.Refused.{Refused}
@@ -80,6 +81,11 @@ one_word n = n ∷ []
 -- a unit's length, and 0 or what it is refused for in a name
 abbrev pub unit_words : FirstUnit → List ℕ
 unit_words u = u.len ∷ number_told u.verdict ∷ []
+
+-- of the runs that were tried, of which there is one at least, how many, and the cheapest; zeros where none was
+abbrev pub run_words : Option CheapestRun → List ℕ
+run_words None = replicate 4 0
+run_words (Some run) = run.tried ∷ run.offset ∷ run.cost ∷ run.bound ∷ []
 
 -- a window's start, length and position
 abbrev pub window_in : List ℕ → Window

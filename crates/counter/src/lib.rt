@@ -10,6 +10,7 @@ mod masters;
 mod names;
 mod reading;
 mod regions;
+mod runs;
 mod sheets;
 mod text;
 mod three_calls;
@@ -30,6 +31,7 @@ pub use regions::{
     counter_allocate, counter_free_clusters, counter_free_regions, counter_max_file_size,
     counter_max_region_size,
 };
+pub use runs::counter_clear;
 pub use sheets::counter_sheet;
 pub use text::{counter_list, counter_report};
 pub use three_calls::{

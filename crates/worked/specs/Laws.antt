@@ -1,5 +1,8 @@
 -- What follows from the definitions.
 pub mod Applied
+pub mod Clear
+pub mod ClearApplied
+pub mod ClearImages
 pub mod FaultsTold
 pub mod Fills
 pub mod GrowthApart

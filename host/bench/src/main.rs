@@ -20,6 +20,7 @@ mod dvd;
 
 mod adversarial;
 mod calls;
+mod clear;
 mod fill;
 mod giant;
 mod growth;
@@ -81,6 +82,9 @@ fn main() {
     if runs("sheet") {
         sheet::run(&mut misses);
         sheet::run_long_texts(&mut misses);
+    }
+    if runs("clear") {
+        clear::run(&mut misses);
     }
     if runs("master") {
         master::run(&mut misses);

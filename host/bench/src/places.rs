@@ -110,6 +110,12 @@ at_four_places!(
     now_make_record_0 now_make_record_1 now_make_record_2 now_make_record_3
 );
 
+at_four_places!(
+    CLEAR:
+    (image: *const u8, n: usize, words: *mut u32, m: usize, size: u32, budget: u32, answer: *mut u32)
+    now_clear_0 now_clear_1 now_clear_2 now_clear_3
+);
+
 edit_before_and_now!(
     INSERT_FILE_BEFORE INSERT_FILE
     (parent: u32, name: *const u8, k: usize, made: *mut u32):
@@ -240,6 +246,22 @@ pub fn time_record(
     let (image, n, at, len) = (image.as_ptr(), image.len(), words.as_mut_ptr(), words.len());
     let (limits, shares, r) = (limits.as_ptr(), shares.as_ptr(), record.as_mut_ptr());
     accepted(timed(|| unsafe { make(image, n, at, len, limits, shares, r) }))
+}
+
+/// A run to clear, by size and budget, at one of the four places; it answers this number.
+pub fn time_clear(
+    place: usize,
+    image: &[u8],
+    words: &mut [u32],
+    [size, budget]: [u32; 2],
+    number: u32,
+) -> Duration {
+    let (clear, mut found) = (CLEAR[place], [0; 4]);
+    let (image, n, at, len) = (image.as_ptr(), image.len(), words.as_mut_ptr(), words.len());
+    let answer = found.as_mut_ptr();
+    let (time, answered) = timed(|| unsafe { clear(image, n, at, len, size, budget, answer) });
+    assert_eq!(answered, number);
+    time
 }
 
 /// From the root.

@@ -108,6 +108,21 @@ const COMPILE: Flag = Flag {
     value: Some(("TEXT", Value::File)),
     words: "makes FILE of the text in TEXT, an edit a line, in the place of running it",
 };
+const BUDGET: Flag = Flag {
+    name: "--budget",
+    value: Some(("N", Value::Number)),
+    words: "tries the first N candidates alone; without it all are tried",
+};
+const MOVES: Flag = Flag {
+    name: "--sheet",
+    value: Some(("OUT", Value::New)),
+    words: "writes the moves as a sheet, a new file, which `counter sheet IMAGE OUT` runs",
+};
+const RUN_IN_MAP: Flag = Flag {
+    name: "--clear",
+    value: Some(("SIZE", Value::Number)),
+    words: "marks the run of SIZE bytes that `counter clear` finds, and the files in it",
+};
 const SHOW: Flag = Flag {
     name: "--show",
     value: None,
@@ -354,6 +369,21 @@ pub const FORMS: &[Form] = &[
         &["counter place disc.iso 64K", "counter place disc.iso 0x1000 4"],
     ),
     Form {
+        flags: &[&BUDGET, &MOVES, &BYTES, &JSON, &WAIT, &AS_IS],
+        more: CLEAR,
+        ..look(
+            "clear",
+            &[&IMAGE, &SIZE],
+            "where SIZE bytes in a row cost least to make free, as for a large film: the run, the files in it, and \
+             the moves that take each of them to a free place",
+            &[
+                "counter clear disc.iso 1M",
+                "counter clear disc.iso 1200K --sheet moves.sheet",
+                "counter sheet disc.iso moves.sheet --dry-run",
+            ],
+        )
+    },
+    Form {
         flags: &[&RECORD, &TEAMS, &FORCE, &JSON, &WAIT],
         more: TOTALS,
         ..look(
@@ -407,12 +437,16 @@ pub const FORMS: &[Form] = &[
         )
     },
     Form {
-        flags: &[&DEMO, &JSON, &WAIT, &AS_IS],
+        flags: &[&DEMO, &RUN_IN_MAP, &BUDGET, &JSON, &WAIT, &AS_IS],
         ..look(
             "map",
             &[&IMAGE, &SVG],
             "draws table, program, files and free space as an SVG picture; rows that are wholly free are folded",
-            &["counter map disc.iso disc.svg", "counter map --demo demo.svg"],
+            &[
+                "counter map disc.iso disc.svg",
+                "counter map --demo demo.svg",
+                "counter map disc.iso run.svg --clear 1M",
+            ],
         )
     },
     Form {
@@ -580,6 +614,23 @@ A program (main.dol) behind the table is not free; the last line tells where it 
 With --clusters each region is told as the bytes before its first multiple of 0x8000, the whole \
 clusters from there on, and the rest: before + 0x8000 * clusters + rest = size. A region whose first \
 multiple of 0x8000 is at or past its end is all \"before\".";
+
+const CLEAR: &str = "\
+A run is so many bytes in a row between the table's end and the disc end, with no byte of a program (main.dol) behind \
+the table. It costs the sizes of the files that have a byte of it, each file whole, since a file moves whole. \
+Candidates are the runs that start where the table, a file that is not empty or such a program ends, from the table \
+on. The cheapest one that was tried is told, of equal ones the first. With all of them tried no run is cheaper, \
+wherever it starts; else it is told by how many bytes another may be, at most.
+Each file in it goes to a place that is free and outside of the run, if there is one: the largest file first, into the \
+smallest free region that has room, on a multiple of the power of two, up to 0x8000, that it lies on now, or where no \
+such place is left on one of 4, or on any. What a file leaves outside of the run is for those after it. The moves are \
+tried on a private copy, at most 1,024 of them, as many as a sheet has; one that is refused, and why, is told. Where \
+an edit would write a table that ends in the run, which one with shared names does when it is written anew, no moves \
+are told: a rewrite comes first.
+A new file's entry makes the table longer, and a run may start at the table's end. So add the file first, empty; ask; \
+make the moves; then move the file to the run's offset, and fill it. Games' files begin on multiples of 0x8000: for one \
+in the run ask for 0x7fff bytes more, and move the file to the offset that is told as aligned.
+Where there is no such run (21), it is told how long one can be. A budget of 0 tries none.";
 
 const TOTALS: &str = "\
 After every edit its record is told: used and free bytes, the size of the largest free region (0 if there \
@@ -765,6 +816,11 @@ pub struct Args {
     pub from: Option<PathBuf>,
     /// The text that a sheet is made of.
     pub compile: Option<PathBuf>,
+    /// The sheet of the moves that clear a run.
+    pub sheet: Option<PathBuf>,
+    /// The size of a run to be marked, and how many candidates may be tried for one.
+    pub clear: Option<u32>,
+    pub budget: Option<u32>,
     /// A sheet is shown as text.
     pub show: bool,
     /// The line with which a sheet begins.
@@ -817,7 +873,7 @@ impl Args {
         let behind = self.form.operands.iter().skip(1);
         let new = behind.zip(&self.operands).filter(|(operand, _)| operand.value == Value::New);
         let image = self.image.as_ref().filter(|_| self.form.group == Group::Make);
-        let options = [&self.out, &self.map].into_iter().flatten().chain(image);
+        let options = [&self.out, &self.map, &self.sheet].into_iter().flatten().chain(image);
         let options = options.map(PathBuf::as_path);
         let sheet = self.operands.first().filter(|_| self.compile.is_some()).map(Path::new);
         new.map(|(_, path)| Path::new(path)).chain(options).chain(sheet).collect()
@@ -856,6 +912,9 @@ impl Args {
             given: Vec::new(),
             from: None,
             compile: None,
+            sheet: None,
+            clear: None,
+            budget: None,
             show: false,
             first: None,
             record: None,
@@ -882,6 +941,9 @@ impl Args {
         }
         if args.team.is_some() && args.record.is_none() {
             return Err(Failure::usage("--team is for --record FILE, a record that has teams"));
+        }
+        if args.budget.is_some() && form.has("--clear") && args.clear.is_none() {
+            return Err(Failure::usage("--budget is for --clear SIZE"));
         }
         args.fit_a_sheet()?;
         Ok(args)
@@ -932,15 +994,17 @@ impl Args {
             "--team" => self.team = Some(given("a team's name or number")?),
             "--from" if self.from.is_some() || self.first.is_some() => return Err(twice()),
             "--from" if self.form.name == "sheet" => {
-                let given = given("the number of a line")?.into_vec();
-                self.first = Some(number(&given).map_err(Failure::usage)?);
+                self.first = Some(counted(given("the number of a line")?)?);
             }
             "--from" => self.from = Some(file()?),
             "--size" if self.size.is_some() => return Err(twice()),
-            "--size" => {
-                let given = given("a number of bytes")?.into_vec();
-                self.size = Some(number(&given).map_err(Failure::usage)?);
-            }
+            "--size" => self.size = Some(counted(given("a number of bytes")?)?),
+            "--clear" if self.clear.is_some() => return Err(twice()),
+            "--clear" => self.clear = Some(counted(given("a number of bytes")?)?),
+            "--budget" if self.budget.is_some() => return Err(twice()),
+            "--budget" => self.budget = Some(counted(given("a number of candidates")?)?),
+            "--sheet" if self.sheet.is_some() => return Err(twice()),
+            "--sheet" => self.sheet = Some(file()?),
             "--empty" => self.empty = true,
             "--code" if self.code.is_some() => return Err(twice()),
             "--code" => self.code = Some(given("a game code")?),
@@ -995,6 +1059,11 @@ impl Args {
         }
         Ok(())
     }
+}
+
+/// The value of an option that is a number.
+fn counted(given: OsString) -> Outcome<u32> {
+    number(&given.into_vec()).map_err(Failure::usage)
 }
 
 impl Form {

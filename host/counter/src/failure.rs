@@ -50,6 +50,8 @@ pub enum Measures {
     Table { before: u64, after: u64, maximum: u64, above: u64 },
     /// 21 of `new`: how large a new master has to be.
     Least(u64),
+    /// 21 of `clear`: how long a run can be, 0 where there is room for none.
+    Most(u64),
     /// 27, whose edit it is, what that team has taken and what the edit costs it, and by how many bytes both
     /// are above its limit.
     Limit { team: Whose, taken: u32, cost: i64, limit: u32, above: u64 },

@@ -210,6 +210,19 @@ const FIELDS: &[(&str, &str)] = &[
     ("find", "ENTRY with largest_size (null for a directory)"),
     ("place", "size align offset room; room: the free bytes from offset on"),
     (
+        "clear",
+        "image size budget tried all_tried offset end aligned cost bound files[number path path_bytes offset size to \
+         detail] no_place largest_left table_in_run moves[path path_bytes offset] accepted refusal{number cause \
+         detail} untried out notes[...]; budget: null where all are tried; all_tried: whether there are no more \
+         candidates; aligned: the run's first multiple of 0x8000, or null; to: where a file goes, or null, and detail \
+         why it stays; no_place: how many stay; largest_left: the largest free region that is left outside of the \
+         run; table_in_run: where the table ends that the next edit writes, if that is in the run, else null: then \
+         no_place is null and there are no moves; moves: in an order in which each is accepted; accepted: how many \
+         of them, from the first on, a private copy accepted; refusal: of the first one, or null; untried: why there \
+         is no such copy, or null; out: OUT of --sheet, or null. With a budget of 0 tried is 0, files and moves are \
+         empty, and what is not known is null",
+    ),
+    (
         "record",
         "status record{used free largest_free edits teams[TEAM]} notes[...] out; edits: of all teams; teams: null \
          where there are none; out: FILE of --record, or null; a FILE in the place of IMAGE: no notes and out, and \
@@ -220,7 +233,8 @@ const FIELDS: &[(&str, &str)] = &[
     ("dol", "offset size entry_point bss_address bss_size sections[name offset address size]"),
     (
         "map",
-        "out disc_end pieces[kind name name_bytes offset size]; kind: system program table file free",
+        "out disc_end pieces[kind name name_bytes offset size]; kind: system program table file free; with --clear \
+         also run{offset end size cost bound tried all_tried files}; files: how many are in it",
     ),
     (
         "check",
@@ -358,7 +372,7 @@ fn json(forms: &[Form]) -> String {
             "  clip{name size}: of a fill; entries has the file that was filled in any case\n",
         );
     }
-    out.push_str("  A refusal: status refused cause about detail; 26 also table{before after maximum above}, 27\n  limit{team name taken cost limit above}, 28 shares{team name cost free others short}, and 21 of `new`\n  least, which is the least --size. Another error: status error.\n");
+    out.push_str("  A refusal: status refused cause about detail; 26 also table{before after maximum above}, 27\n  limit{team name taken cost limit above}, 28 shares{team name cost free others short}, and 21 of `new`\n  least, which is the least --size, of `clear` and `map` most, which is the longest run that there is.\n  Another error: status error.\n");
     out
 }
 
@@ -461,7 +475,8 @@ fn statuses() -> String {
          \x20     --team: left out with a record that has teams, given with another, or no team of it;\n\
          \x20     fill: a clip that is the image, a journal or a clip that is kept;\n\
          \x20     sheet: --from with no such line; where a line of the same sheet was cut and is finished now, --from\n\
-         \x20     left out, or with that line\n\
+         \x20     left out, or with that line;\n\
+         \x20     clear, map: a budget of 0 with --sheet, or for a picture\n\
          \x20 65  compare, report: an image too short for a header, a LIST or a manifest that is wrong;\n\
          \x20     a command that shows every path: more than 64 MiB of them;\n\
          \x20     --record: a FILE that is torn or no record, or whose used bytes or largest free region\n\
@@ -472,7 +487,8 @@ fn statuses() -> String {
          \x20     counter-new.N, a file of 4 GiB or more, one whose length changes meanwhile, or more than\n\
          \x20     100,000 files;\n\
          \x20     sheet: a TEXT that is wrong, with line and column, or a sheet already; a sheet or a text of more\n\
-         \x20     than 16 MiB\n\
+         \x20     than 16 MiB;\n\
+         \x20     clear: --sheet where the next edit writes a table that ends in the run\n\
          \x20 66  no such image or clip, or a folder in its place, or a special file in the image's;\n\
          \x20     --given, --from, --teams LIST: no such LIST, or a folder in its place; sheet: no such FILE or\n\
          \x20     TEXT, or a folder in its place; after a line that a failing page cut, no FILE or another one;\n\

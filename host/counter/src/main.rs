@@ -15,6 +15,7 @@ mod call;
 mod carry;
 mod cause;
 mod change;
+mod clear;
 mod clip;
 mod compare;
 mod digests;
@@ -40,9 +41,11 @@ mod make;
 mod manifest;
 mod map;
 mod maximum;
+mod moves;
 mod names;
 mod os;
 mod pages;
+mod places;
 mod program;
 mod progress;
 mod record;
@@ -69,6 +72,7 @@ mod trouble;
 mod units;
 mod version;
 mod wanted;
+mod way;
 
 use args::{Args, FORMS, Form};
 use cause::cause;
@@ -155,6 +159,7 @@ fn run(args: Args) -> Outcome<u8> {
         "free" => look::free(&args)?,
         "find" => look::find(&args)?,
         "place" => look::place(&args)?,
+        "clear" => clear::clear(&args)?,
         "check" => look::check(&args)?,
         "extract" => take::extract(&args)?,
         "cat" => take::cat(&args)?,
@@ -226,6 +231,7 @@ fn measured(measures: &Measures) -> (&'static str, Json) {
             ("table", Json::Object(numbers))
         }
         Measures::Least(least) => ("least", (*least).into()),
+        Measures::Most(most) => ("most", (*most).into()),
         Measures::Limit { team, taken, cost, limit, above } => {
             let numbers = vec![
                 ("taken", (*taken).into()),

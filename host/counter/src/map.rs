@@ -2,32 +2,39 @@
 //! from top to bottom; above them its start, enlarged, since header, program and table are small.
 
 use crate::args::Args;
-use crate::disc::opened;
-use crate::failure::Outcome;
+use crate::disc::{Disc, opened};
+use crate::failure::{Failure, Outcome};
+use crate::image::{Desk, Image};
 use crate::json::{self, Json};
 use crate::layout::Layout;
 use crate::names;
 use crate::out::say;
 use crate::save::save;
 use crate::text::{self, counted, escape, grouped, human};
+use crate::way::{Way, Wish, meet};
 use counter_sys::HEADER_SIZE;
 use std::collections::{BTreeMap, HashSet};
 use std::fmt::Write as _;
 
 pub fn map(args: &Args) -> Outcome<()> {
     let (image, mut desk, disc) = opened(args.image.as_deref())?;
-    let layout = Layout::of(&image, &mut desk, &disc.with_paths()?)?;
+    let disc = disc.with_paths()?;
+    let way = to_clear(args, &image, &mut desk, &disc)?;
+    let layout = Layout::of(&image, &mut desk, &disc)?;
     let folders = Folders::of(&[&layout]);
-    let pieces = pieces(&layout, &folders, &HashSet::new());
+    let blocking = way.iter().flat_map(|way| &way.files).map(|file| file.node.number);
+    let pieces = pieces(&layout, &folders, &blocking.collect());
     let mut picture = Picture::new(&layout, &pieces, &folders, 30.0, 1050.0);
     picture.free = free_rows(&layout, &pieces);
+    picture.way = way.as_ref();
     picture.whole();
     let out = args.path(0);
     save(&out, document(1200.0, picture.y, &picture.out).as_bytes())?;
     if !args.json {
         let files = counted(layout.files().count(), "file", "files");
         let regions = counted(layout.free.len(), "free region", "free regions");
-        return say(format!("{}: {files}, {regions}\n", names::file(&out)).as_bytes());
+        let run = way.map_or(String::new(), |way| format!(", {}", way.words()));
+        return say(format!("{}: {files}, {regions}{run}\n", names::file(&out)).as_bytes());
     }
     let pieces = pieces.iter().map(|piece| {
         let [name, name_bytes] = json::name(&piece.bytes);
@@ -39,12 +46,27 @@ pub fn map(args: &Args) -> Outcome<()> {
             ("size", piece.size.into()),
         ])
     });
-    let json = Json::answer(vec![
+    let mut fields = vec![
         ("out", out.display().to_string().into()),
         ("disc_end", layout.disc_end.into()),
         ("pieces", Json::List(pieces.collect())),
-    ]);
-    say(json.document().as_bytes())
+    ];
+    fields.extend(way.map(|way| ("run", way.json())));
+    say(Json::answer(fields).document().as_bytes())
+}
+
+/// The run that is to be marked, if one is.
+fn to_clear<'a>(
+    args: &Args,
+    image: &Image,
+    desk: &mut Desk,
+    disc: &'a Disc,
+) -> Outcome<Option<Way<'a>>> {
+    let Some(size) = args.clear else { return Ok(None) };
+    match (Wish { size, budget: args.budget }).find(image, desk, disc)? {
+        None => Err(Failure::usage("--budget 0 tries no run: there is none to be marked")),
+        way => Ok(way),
+    }
 }
 
 /// Entries to be marked, by their numbers, before and after.
@@ -331,6 +353,8 @@ struct Picture<'a> {
     span: f64,
     /// The rows that are wholly free, and folded where several are.
     free: Vec<bool>,
+    /// The run that is marked.
+    way: Option<&'a Way<'a>>,
     out: String,
     y: f64,
 }
@@ -368,7 +392,7 @@ impl<'a> Picture<'a> {
         };
         order.sort_by_key(|&i| (layer(&pieces[i]), u64::MAX - pieces[i].size));
         let (free, out) = (Vec::new(), String::new());
-        Picture { layout, pieces, folders, order, titled, left, span, free, out, y: 0.0 }
+        Picture { layout, pieces, folders, order, titled, left, span, free, way: None, out, y: 0.0 }
     }
 
     /// Everything, on a page of its own.
@@ -519,6 +543,14 @@ impl<'a> Picture<'a> {
             legend.add(&mut self.out, name, colour);
         }
         self.y = legend.y + 20.0;
+        if let Some(way) = self.way {
+            let mut legend = Legend { x: legend.left, y: self.y, lines: 1, ..legend };
+            legend.outlined(&mut self.out, &way.words());
+            if !way.files.is_empty() {
+                legend.framed(&mut self.out, "a file in its way");
+            }
+            self.y = legend.y + 20.0;
+        }
     }
 
     fn each(&self) -> u64 {
@@ -531,8 +563,14 @@ impl<'a> Picture<'a> {
         let starts: Vec<u64> =
             (0..ROWS).map(|row| row * each).filter(|start| *start < end).collect();
         let mut row = 0;
+        // Those of the run are shown.
+        let run = self.way.map_or(0..0, Way::span);
+        let is_folded = |row: usize| {
+            self.free[row] && meet(&(starts[row]..starts[row] + each), &run).is_empty()
+        };
+        let folded: Vec<bool> = (0..starts.len()).map(is_folded).collect();
         while row < starts.len() {
-            let free = self.free[row..].iter().take_while(|free| **free).count();
+            let free = folded[row..].iter().take_while(|folded| **folded).count();
             if free > 1 {
                 let until = (starts[row] + free as u64 * each).min(end);
                 self.folded(starts[row], until, free);
@@ -614,6 +652,14 @@ impl<'a> Picture<'a> {
         }
         self.frame(left, y, self.span, high);
         self.out.push_str(&labels);
+        if let Some(way) = self.way {
+            let part = meet(&(from..until), &way.span());
+            if !part.is_empty() {
+                let wide = ((part.end - part.start) as f64 * scale).max(LEAST);
+                let x = (left + (part.start - from) as f64 * scale).min(left + self.span - wide);
+                outlined(&mut self.out, (x, y), (wide, high), &way.words());
+            }
+        }
     }
 
     /// The largest files and the largest free regions.
@@ -699,6 +745,20 @@ fn marked(out: &mut String, at: (f64, f64), size: (f64, f64), colour: &str, titl
     );
 }
 
+/// A frame around what is drawn there.
+fn outlined(out: &mut String, at: (f64, f64), size: (f64, f64), title: &str) {
+    let _ = writeln!(
+        out,
+        "<rect x=\"{:.1}\" y=\"{:.1}\" width=\"{:.1}\" height=\"{:.0}\" fill=\"none\" stroke=\"#000000\" \
+         stroke-width=\"3\" stroke-dasharray=\"7 3\"><title>{}</title></rect>",
+        at.0,
+        at.1 - 1.0,
+        size.0,
+        size.1 + 2.0,
+        escape(title)
+    );
+}
+
 /// Names behind boxes, in lines; what does not go into the last line is counted.
 struct Legend {
     x: f64,
@@ -722,6 +782,14 @@ impl Legend {
         if self.room(width(name) + 36.0) {
             marked(out, (self.x, self.y - 1.0), (11.0, 13.0), "#ffffff", name);
             text(out, self.x + 16.0, self.y + 10.0, "", name);
+        }
+    }
+
+    fn outlined(&mut self, out: &mut String, name: &str) {
+        if self.room(width(name) + 36.0) {
+            outlined(out, (self.x, self.y), (11.0, 11.0), name);
+            text(out, self.x + 16.0, self.y + 10.0, "", name);
+            self.x += width(name) + 36.0;
         }
     }
 

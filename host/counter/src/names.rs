@@ -341,11 +341,22 @@ pub fn file(name: impl AsRef<OsStr>) -> String {
 
 /// The same as a word of a command, as a shell takes it.
 pub fn word(name: impl AsRef<OsStr>) -> String {
-    let text = file(name);
-    match text.chars().all(|c| c.is_alphanumeric() || "_-./+,:@%=".contains(c)) && !text.is_empty()
-    {
-        true => text,
-        false => format!("'{}'", text.replace('\'', r"'\''")),
+    String::from_utf8_lossy(&for_shell(file(name).as_bytes())).into_owned()
+}
+
+/// A path of the image as a word of a command, as PATH is taken.
+pub fn path_word(path: &[u8]) -> Vec<u8> {
+    for_shell(&shown(path))
+}
+
+fn for_shell(word: &[u8]) -> Vec<u8> {
+    let plain = |c: char| c.is_alphanumeric() || "_-./+,:@%=".contains(c);
+    match std::str::from_utf8(word) {
+        Ok(text) if !text.is_empty() && text.chars().all(plain) => word.to_vec(),
+        _ => {
+            let parts: Vec<&[u8]> = word.split(|&b| b == b'\'').collect();
+            [b"'", &parts.join(&br"'\''"[..])[..], b"'"].concat()
+        }
     }
 }
 

@@ -8,10 +8,10 @@ use std::path::Path;
 use std::process::{Command, Stdio};
 use support::*;
 
-const COMMANDS: [&str; 25] = [
-    "info", "list", "tree", "free", "find", "place", "record", "cat", "extract", "dol", "map",
-    "check", "compare", "hash", "report", "mkdir", "add", "move", "resize", "fill", "rewrite",
-    "maximum", "sheet", "recover", "new",
+const COMMANDS: [&str; 26] = [
+    "info", "list", "tree", "free", "find", "place", "clear", "record", "cat", "extract", "dol",
+    "map", "check", "compare", "hash", "report", "mkdir", "add", "move", "resize", "fill",
+    "rewrite", "maximum", "sheet", "recover", "new",
 ];
 
 /// A folder with the files that the examples name.
@@ -102,6 +102,9 @@ fn help_comes_in_every_way_and_is_about_its_command_alone() {
         "--from-dir",
         "--compile",
         "--show",
+        "--budget",
+        "--sheet",
+        "--clear",
     ];
     for command in COMMANDS {
         let help = run(&["help", command]).out;
@@ -252,6 +255,10 @@ fn bash_completes_commands_options_files_and_paths() {
     assert_eq!(offered(&["counter", "sheet", "disc.iso", "re"]), ["rest.sheet"]);
     // The number of a line.
     assert_eq!(offered(&["counter", "sheet", "disc.iso", "--from", ""]), [""; 0]);
+    assert_eq!(offered(&["counter", "clear", "disc.iso", "1M", "--sh"]), ["--sheet"]);
+    assert_eq!(offered(&["counter", "clear", "disc.iso", "1M", "--sheet", "da"]), ["day.txt"]);
+    assert_eq!(offered(&["counter", "clear", "--budget", "3", "dis"]), ["disc.iso"]);
+    assert_eq!(offered(&["counter", "map", "disc.iso", "--cl"]), ["--clear"]);
     assert_eq!(offered(&["counter", "help", "saf"]), ["safety"]);
 }
 

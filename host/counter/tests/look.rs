@@ -957,8 +957,8 @@ fn help_documents_commands_statuses_and_safety() {
     let run_help = run(&["help", "all"]);
     assert_eq!(run_help.status, 0);
     let commands = [
-        "info", "list", "tree", "free", "find", "place", "check", "extract", "cat", "dol", "map",
-        "compare", "hash", "report", "mkdir", "add", "move", "resize", "fill", "rewrite",
+        "info", "list", "tree", "free", "find", "place", "clear", "check", "extract", "cat", "dol",
+        "map", "compare", "hash", "report", "mkdir", "add", "move", "resize", "fill", "rewrite",
         "recover", "new",
     ];
     for command in commands {
@@ -994,11 +994,11 @@ fn help_names_every_field_of_the_json() {
     let help = run(&["help", "json"]).out;
     let words: Vec<&str> = help.split(|c: char| !c.is_ascii_alphanumeric() && c != '_').collect();
     let (out, svg, page) = (temp.at("out"), temp.at("map.svg"), temp.at("page.html"));
-    let copy = temp.at("copy.iso");
+    let (copy, run_svg) = (temp.at("copy.iso"), temp.at("run.svg"));
     fs::copy(&image, &copy).unwrap();
     let copy = copy.to_str().unwrap();
     let lines = temp.write("lines.bin", b"lines");
-    let commands: [(&str, &[&str]); 22] = [
+    let commands: [(&str, &[&str]); 24] = [
         ("info", &[]),
         ("list", &[]),
         ("tree", &[]),
@@ -1010,7 +1010,9 @@ fn help_names_every_field_of_the_json() {
         ("cat", &["audio/se/se000.dsp"]),
         ("dol", &[]),
         ("map", &[svg.to_str().unwrap()]),
+        ("map", &[run_svg.to_str().unwrap(), "--clear", "64K"]),
         ("place", &["64K"]),
+        ("clear", &["1M"]),
         ("compare", &[copy]),
         ("compare", &[copy, "--tables"]),
         ("report", &[copy, page.to_str().unwrap()]),
@@ -1131,13 +1133,14 @@ fn every_answer_in_json_has_its_status() {
     let [copy, out, svg, page] =
         ["copy.iso", "out", "map.svg", "page.html"].map(|name| temp.at(name));
     let [copy, out, svg, page] = [&copy, &out, &svg, &page].map(|path| path.to_str().unwrap());
-    let answers: [(&str, &[&str]); 16] = [
+    let answers: [(&str, &[&str]); 17] = [
         ("info", &[]),
         ("list", &[]),
         ("tree", &[]),
         ("free", &[]),
         ("find", &["opening.bnr"]),
         ("place", &["64K"]),
+        ("clear", &["64K"]),
         ("record", &[]),
         ("cat", &["audio/se/se000.dsp"]),
         ("extract", &["opening.bnr", out]),
@@ -1330,6 +1333,7 @@ fn a_manifest_goes_to_a_new_file_and_never_over_another() {
             on("hash", &image, &["--out", name]),
             on("dol", &image, &["--out", name]),
             on("map", &image, &[name]),
+            on("clear", &image, &["1", "--sheet", name]),
             on("extract", &image, &["opening.bnr", name]),
             on("extract", &image, &["--all", name]),
             run(&["map", "--demo", name]),

@@ -564,6 +564,16 @@ impl Lender {
         })
     }
 
+    /// How many runs were tried, where the cheapest of them starts, its cost and the bound; none where none was tried.
+    pub fn clear(&mut self, size: u32, budget: u32) -> Answer<Option<[u32; 4]>> {
+        let found = self.look(|image, words, answer| unsafe {
+            call!(counter_clear(in image, mut words, = size, = budget, = answer))
+        })?;
+        hold(found[0] <= budget, "clear: more tried than the budget allows")?;
+        hold(found[0] != 0 || found == [0; 4], "clear: none tried, and an answer")?;
+        Ok((found[0] != 0).then_some(found))
+    }
+
     pub fn open_file(&mut self, number: u32) -> Answer<[u64; 3]> {
         self.call(Does::Look, |lender, window| {
             let (image, words) = (lender.image.slice(), lender.words.slice_mut());

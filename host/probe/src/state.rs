@@ -167,7 +167,7 @@ impl State {
                 self.lender.lend_list(len);
                 return Ok("ok".into());
             }
-            "maxregion" | "alloc" => numbers = [words.word()?, words.word()?],
+            "maxregion" | "alloc" | "clear" => numbers = [words.word()?, words.word()?],
             "maxfile" | "entry" => numbers[0] = words.word()?,
             "lookup" => (numbers[0], path) = (words.word()?, words.bytes()?),
             "header" | "open" | "list" | "listing" | "free" | "clusters" | "used" | "total"
@@ -199,6 +199,10 @@ impl State {
                 let [offset, size] = lender.allocate(numbers[0], numbers[1])?;
                 format!("ok {offset} {size}")
             }
+            "clear" => match lender.clear(numbers[0], numbers[1])? {
+                Some([tried, offset, cost, bound]) => format!("ok {tried} {offset} {cost} {bound}"),
+                None => "ok none".into(),
+            },
             _ => self.dol()?,
         })
     }

@@ -1,7 +1,7 @@
 //! The probe on the small master: its listing, P1 to P12, every refusal number once,
 //! free regions in clusters, a program behind the table or before it, lists of edits, files filled
-//! from given bytes, records, teams, the stated table maximum, new masters, edits in three calls, edit sheets, and calls
-//! with too little memory or too short a list.
+//! from given bytes, records, teams, the stated table maximum, new masters, edits in three calls, edit sheets, runs to
+//! clear, and calls with too little memory or too short a list.
 //! `dirty` is never an answer.
 
 use std::io::{Read, Write};
@@ -18,6 +18,13 @@ const MASTER: [&str; 6] = [
     "patch 0x424 000004400000001a",
     "patch 0x434 00002000",
     "patch 0x440 0100000000000000000000020000000000000500000001006100",
+];
+
+/// Its table at 0x600, and `a` at 0x800: between 0x440 and 0x600 there is room for a program.
+const TABLE_AT_0X600: [&str; 3] = [
+    "patch 0x600 0100000000000000000000020000000000000800000001006100",
+    "patch 0x440 0000000000000000000000000000000000000000000000000000",
+    "patch 0x424 000006000000001a",
 ];
 
 /// A record of the image with a team 0 that may take anything, and no share.
@@ -90,10 +97,15 @@ fn with_all_teams(answer: &str) -> String {
 
 /// Each list of commands on a fresh small master; its last answer.
 fn hold(cases: &[(&[&str], &str)]) {
+    hold_from(&[], cases);
+}
+
+/// The same behind these commands.
+fn hold_from(first: &[&str], cases: &[(&[&str], &str)]) {
     let mut commands: Vec<String> = vec![];
     let mut ends = vec![];
     for (list, _) in cases {
-        commands.extend(MASTER.iter().chain(*list).map(|line| line.to_string()));
+        commands.extend(MASTER.iter().chain(first).chain(*list).map(|line| line.to_string()));
         ends.push(commands.len() - 1);
     }
     let answers = answers(&commands);
@@ -275,14 +287,8 @@ fn program_behind_the_table() {
     ]);
 }
 
-/// The table at 0x600, `a` at 0x800: between 0x440 and 0x600 there is room for a program.
 #[test]
 fn program_before_the_table() {
-    const TABLE: [&str; 3] = [
-        "patch 0x600 0100000000000000000000020000000000000800000001006100",
-        "patch 0x440 0000000000000000000000000000000000000000000000000000",
-        "patch 0x424 000006000000001a",
-    ];
     let cases: [(&[&str], &str); 12] = [
         (&["free"], "ok 1562:486 2304:5888"),
         (&["patch 0x420 00000440", "free"], "ok 1562:486 2304:5888"),
@@ -298,11 +304,7 @@ fn program_before_the_table() {
         (&["patch 0x420 00000619", "open"], "err 14"),
         (&["patch 0x420 0000061a", "used"], "ok 2046"),
     ];
-    let lists: Vec<Vec<&str>> =
-        cases.iter().map(|(lines, _)| [&TABLE[..], lines].concat()).collect();
-    let cases: Vec<(&[&str], &str)> =
-        lists.iter().zip(cases).map(|(list, (_, said))| (&list[..], said)).collect();
-    hold(&cases);
+    hold_from(&TABLE_AT_0X600, &cases);
 }
 
 /// 24 comes after the walk and before 14, and only for a DOL offset other than 0.
@@ -328,6 +330,94 @@ fn program_that_cannot_be_read() {
         (&["patch 0 ffffffff", "patch 0x90 00000001", "used"], "ok 1370"),
         (&["patch 0 ffffffff", "patch 0x90 00000001", "dol"], "err 24"),
     ]);
+}
+
+/// Where the least has to be moved away: free are 1114 to 1280 and 1536 to 8192.
+#[test]
+fn runs_to_clear() {
+    hold(&[
+        (&["clear 1 0"], "ok none"),
+        (&["clear 1 1"], "ok 1 1114 0 0"),
+        (&["clear 166 2"], "ok 2 1114 0 0"),
+        (&["clear 167 1"], "ok 1 1114 256 256"),
+        (&["clear 167 2"], "ok 2 1536 0 0"),
+        (&["clear 0xa7 0xffffffff"], "ok 2 1536 0 0"),
+        // Behind `a` there are 6656 bytes, from the table's end on 7078.
+        (&["clear 6656 1"], "ok 1 1114 256 256"),
+        (&["clear 6656 2"], "ok 2 1536 0 0"),
+        (&["clear 6657 1"], "ok 1 1114 256 0"),
+        (&["clear 7078 9"], "ok 1 1114 256 0"),
+        (&["clear 7078 0"], "ok none"),
+        (&["clear 7079 0"], "err 21"),
+        (&["clear 7079 9"], "err 21"),
+        (&["clear 4294967295 0"], "err 21"),
+        (&["clear 4294967295 4294967295"], "err 21"),
+        (&["clear 0 0"], "err 21"),
+        (&["clear 0 4294967295"], "err 21"),
+        // What opening refuses comes first.
+        (&["patch 0x1c 00", "clear 0 0"], "err 3"),
+        (&["patch 0x450 00000459", "clear 7079 0"], "err 14"),
+        (&["lend 15 0", "clear 0 1"], "err 9"),
+        (&["lend 16 0", "clear 0 1"], "err 21"),
+        (&["clear 167 2"], "ok 2 1536 0 0"),
+        // `a` at the table's end, at the disc's end, and empty; a disc that ends with the table.
+        (&["patch 0x450 0000045a", "clear 1 1"], "ok 1 1114 256 256"),
+        (&["patch 0x450 0000045a", "clear 1 2"], "ok 2 1370 0 0"),
+        (&["patch 0x450 00001f00", "clear 6822 9"], "ok 1 1114 0 0"),
+        (&["patch 0x450 00001f00", "clear 6823 9"], "ok 1 1114 256 0"),
+        (&["patch 0x454 00000000", "clear 7078 9"], "ok 1 1114 0 0"),
+        (&["patch 0x454 00000000", "patch 0x434 0000045a", "clear 1 0"], "err 21"),
+    ]);
+    // `b` behind `a`: free are 1128 to 1280, 1536 to 2560 and from 6656 on, 2712 bytes.
+    let large = ["lend 65544 2097152", "insert_file 0 62", "move 2 0xa00", "resize 2 0x1000"];
+    hold_from(
+        &large,
+        &[
+            (&["clear 1536 2"], "ok 2 1536 4096 4096"),
+            (&["clear 1536 3"], "ok 3 6656 0 0"),
+            (&["clear 1537 1"], "ok 1 1128 4352 4351"),
+            (&["clear 1537 2"], "ok 2 1536 4096 0"),
+            (&["clear 2712 1"], "ok 1 1128 4352 4351"),
+            (&["clear 2713 1"], "ok 1 1128 4352 4351"),
+            (&["clear 2714 1"], "ok 1 1128 4352 4350"),
+            (&["clear 6656 1"], "ok 1 1128 4352 408"),
+            (&["clear 6656 2"], "ok 2 1536 4096 0"),
+            (&["clear 6657 1"], "ok 1 1128 4352 0"),
+            // Of equals the first.
+            (&["resize 2 0x100", "clear 153 1"], "ok 1 1128 256 256"),
+            (&["resize 2 0x100", "clear 153 2"], "ok 2 1536 0 0"),
+            (&["resize 2 0x100", "clear 153 3"], "ok 3 1536 0 0"),
+        ],
+    );
+}
+
+/// A run spares the program: behind the files, at the table's end, at the disc's end, before the table.
+#[test]
+fn runs_that_spare_the_program() {
+    hold(&[
+        (&["patch 0x420 00001000", "clear 2982 1"], "ok 1 1114 256 256"),
+        (&["patch 0x420 00001000", "clear 2982 9"], "ok 2 4324 0 0"),
+        (&["patch 0x420 00001000", "clear 2983 1"], "ok 1 4324 0 0"),
+        (&["patch 0x420 00001000", "clear 3868 1"], "ok 1 4324 0 0"),
+        (&["patch 0x420 00001000", "clear 3869 0"], "err 21"),
+        (&["patch 0x450 00000600", "patch 0x420 0000045a", "clear 195 1"], "ok 1 1342 256 256"),
+        (&["patch 0x450 00000600", "patch 0x420 0000045a", "clear 195 2"], "ok 2 1792 0 0"),
+        (&["patch 0x450 00000600", "patch 0x420 0000045a", "clear 6850 9"], "ok 1 1342 256 0"),
+        (&["patch 0x450 00000600", "patch 0x420 0000045a", "clear 6851 9"], "err 21"),
+        (&["patch 0x420 00001f1c", "clear 6428 9"], "ok 2 1536 0 0"),
+        (&["patch 0x420 00001f1c", "clear 6429 9"], "ok 1 1114 256 0"),
+        (&["patch 0x420 00001f1c", "clear 6850 9"], "ok 1 1114 256 0"),
+        (&["patch 0x420 00001f1c", "clear 6851 9"], "err 21"),
+    ]);
+    hold_from(
+        &TABLE_AT_0X600,
+        &[
+            (&["patch 0x420 00000440", "clear 487 1"], "ok 1 1562 256 256"),
+            (&["patch 0x420 00000440", "clear 487 9"], "ok 2 2304 0 0"),
+            (&["patch 0x420 00000440", "clear 6630 9"], "ok 1 1562 256 0"),
+            (&["patch 0x420 00000440", "clear 6631 0"], "err 21"),
+        ],
+    );
 }
 
 /// One probe carries out all of these, so what `lend_list` names holds for the next image too.
@@ -393,6 +483,14 @@ fn usage() {
         ("lend_list all", "usage not a number"),
         ("clusters 1", "usage too many words"),
         ("cluster", "usage no such command"),
+        ("clear", "usage a word is missing"),
+        ("clear 1", "usage a word is missing"),
+        ("clear 1 2 3", "usage too many words"),
+        ("clear 4294967296 1", "usage above 32 bits"),
+        ("clear 1 4294967296", "usage above 32 bits"),
+        ("clear 18446744073709551616 1", "usage not a number"),
+        ("clear 1 -", "usage not a number"),
+        ("clears 1 1", "usage no such command"),
         ("replace", "usage a word is missing"),
         ("replace 1", "usage a word is missing"),
         ("replace 1 0", "usage odd hexadecimal"),
@@ -1257,7 +1355,7 @@ fn never_dirty() {
                 }
                 _ => None,
             });
-            commands.push(match random(24) {
+            commands.push(match random(25) {
                 0 => format!("move {entry} {at}"),
                 1 => format!("resize {entry} {len}"),
                 2 => "rewrite".into(),
@@ -1289,6 +1387,7 @@ fn never_dirty() {
                 20 => format!("move_table {entry} {at}"),
                 21 => format!("resize_copy {entry} {len}"),
                 22 => format!("resize_table {entry} {len}"),
+                23 => format!("clear {} {}", len << random(4), random(4)),
                 _ => format!("patch {} {:02x}", 0x420 + random(0x44), random(4)),
             });
         }

@@ -436,6 +436,7 @@ impl Stage {
             "max_region_size" => ask!(u32, 1, counter_max_region_size(, = a, = b)),
             "max_file_size" => ask!(u32, 1, counter_max_file_size(, = a)),
             "allocate" => ask!(u32, 2, counter_allocate(, = a, = b)),
+            "clear" => ask!(u32, 4, counter_clear(, = a, = b)),
             "open_file" => ask!(u64, 3, counter_open_file(, = a)),
             "open_dol" => {
                 let mut header = Guarded::<u32>::new(DOL_WORDS);
@@ -539,7 +540,7 @@ fn arity(name: &str) -> usize {
     match name {
         "open" | "totals" | "program" | "entries" | "free_regions" | "free_clusters"
         | "open_dol" | "header" | "rewrite" | "sheet" => 0,
-        "max_region_size" | "allocate" | "move_file" | "resize_file" | "fill_zeros"
+        "max_region_size" | "allocate" | "clear" | "move_file" | "resize_file" | "fill_zeros"
         | "move_copy" | "move_table" | "resize_copy" | "resize_table" | "zero" => 2,
         _ => 1,
     }

@@ -15,7 +15,7 @@ fn every_call_of_every_script() {
         assert!(outcome.differ.is_empty(), "{}", outcome.differ.join("\n"));
         calls += outcome.calls;
     }
-    assert_eq!(calls, 11280, "all of them, so that none is lost");
+    assert_eq!(calls, 12750, "all of them, so that none is lost");
 }
 
 /// A script that a program of this folder puts together is as it does.
@@ -46,6 +46,11 @@ fn edit_sheets_are_put_together() {
     put_together("sheets.py", "sheets.txt");
 }
 
+#[test]
+fn runs_to_clear_are_put_together() {
+    put_together("runs.py", "clear.txt");
+}
+
 const MASTER: &str =
     "lend 0x1000 0x1000 0x400\nsize 0x2000\npatch 0x1c :c2339f3d\npatch 0x424 :000004400000001a
 patch 0x434 :0000200000000000\npatch 0x440 :0100000000000000000000020000000000000500000001006100\n";
@@ -60,6 +65,9 @@ fn right_answers_of_the_small_master() {
     for line in [
         "max_file_size 1 = 0 0x1b00",
         "allocate 0x100 0x100 = 0 0x600 0x1a00",
+        "clear 167 1 = 0 1 0x45a 0x100 0x100",
+        "clear 167 0 = 0 0 0 0 0",
+        "clear 7079 0 = 21",
         "free_regions = 0 2 0x45a 0xa6 0x600 0x1a00",
         "free_clusters = 0 2 0xa6 0 0 0x1a00 0 0",
         "program = 0 0 0",
@@ -141,6 +149,11 @@ fn a_wrong_answer_is_told() {
             "s:7: free_clusters: gave 0x0 0x2 0xa6 0x0 0x0 0x1a00 0x0 0x0, has to give 0x0 0x2 0xa6 0x0 0x0 0x1a00 0x0 0x1",
         ),
         ("free_clusters 1 = 0 0", "s:7: free_clusters 1: a number too many or too few"),
+        (
+            "clear 167 2 = 0 2 0x45a 0 0",
+            "s:7: clear 167 2: gave 0x0 0x2 0x600 0x0 0x0, has to give 0x0 0x2 0x45a 0x0 0x0",
+        ),
+        ("clear 167 = 21", "s:7: clear 167: a number too many or too few"),
         ("fill_file 1 2 :00 = 0", "s:7: fill_file 1 2: a number too many or too few"),
         ("fill_file 1 2 0 = 0", "s:7: fill_file 1 2 0: a text is missing"),
         ("fill_zeros 1 = 0", "s:7: fill_zeros 1: a number too many or too few"),

@@ -136,6 +136,15 @@ unsafe extern "C" {
         align: u32,
         answer: *mut [u32; 2],
     ) -> u32;
+    pub fn counter_clear(
+        image: *const u8,
+        image_len: usize,
+        words: *mut u32,
+        words_len: usize,
+        size: u32,
+        budget: u32,
+        answer: *mut [u32; 4],
+    ) -> u32;
     pub fn counter_open_file(
         image: *const u8,
         image_len: usize,

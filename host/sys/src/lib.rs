@@ -45,6 +45,16 @@ pub struct Region {
     pub size: u32,
 }
 
+/// The cheapest of the runs that were tried: how many those were, where it starts, the sizes of the files that it
+/// touches, and what it costs more, at most, than any run.
+#[derive(Debug, Clone, Copy, PartialEq, Eq)]
+pub struct CheapestRun {
+    pub tried: u32,
+    pub offset: u32,
+    pub cost: u32,
+    pub bound: u32,
+}
+
 /// A part of an image with a position.
 #[derive(Debug, Clone, Copy, PartialEq, Eq)]
 pub struct Window {
@@ -330,6 +340,21 @@ pub fn allocate(image: &[u8], memory: &mut Memory, size: u32, align: u32) -> Ans
         call!(counter_allocate(in image, mut memory.words, = size, = align, = &mut answer))
     })?;
     Ok(Region { offset: answer[0], size: answer[1] })
+}
+
+/// Where the least has to be moved away for `size` bytes in a row; none where no run was tried, for a budget of 0.
+pub fn clear(
+    image: &[u8],
+    memory: &mut Memory,
+    size: u32,
+    budget: u32,
+) -> Answer<Option<CheapestRun>> {
+    let mut answer = [0; 4];
+    told(unsafe {
+        call!(counter_clear(in image, mut memory.words, = size, = budget, = &mut answer))
+    })?;
+    let [tried, offset, cost, bound] = answer;
+    Ok((tried != 0).then_some(CheapestRun { tried, offset, cost, bound }))
 }
 
 pub fn open_file(image: &[u8], memory: &mut Memory, number: u32) -> Answer<Window> {

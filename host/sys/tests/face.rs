@@ -2,7 +2,9 @@
 //! program's region; an image with nothing in it.
 
 use counter_sys::guarded::Guarded;
-use counter_sys::{Entry, Memory, Opened, Record, Region, Stopped, TEAMS, Team, Window, call};
+use counter_sys::{
+    CheapestRun, Entry, Memory, Opened, Record, Region, Stopped, TEAMS, Team, Window, call,
+};
 use std::array;
 
 /// The small master.
@@ -118,6 +120,10 @@ fn the_calls_on_slices() {
     assert_eq!(counter_sys::max_file_size(&image, &mut memory, 1), Ok(0x1b00));
     let place = Region { offset: 0x600, size: 0x1a00 };
     assert_eq!(counter_sys::allocate(&image, &mut memory, 0x100, 0x100), Ok(place));
+    let run = CheapestRun { tried: 1, offset: 0x45a, cost: 0x100, bound: 0x100 };
+    assert_eq!(counter_sys::clear(&image, &mut memory, 167, 1), Ok(Some(run)));
+    assert_eq!(counter_sys::clear(&image, &mut memory, 167, 0), Ok(None));
+    assert_eq!(counter_sys::clear(&image, &mut memory, 7079, 0), Err(21));
     let window = Window { start: 0x500, length: 0x100, position: 0 };
     assert_eq!(counter_sys::open_file(&image, &mut memory, 1), Ok(window));
     let (header, window) = counter_sys::open_dol(&image, &mut memory).unwrap();
@@ -209,12 +215,15 @@ fn no_name_and_no_argument_is_taken_for_another() {
     // A text's first unit and a path's first component.
     assert_eq!(counter_sys::unit(b"ab/c"), (1, 0));
     assert_eq!(counter_sys::component(b"ab/c"), 2);
-    // Offset and size, size and alignment.
+    // Offset and size, size and alignment, size and budget.
     assert_eq!(counter_sys::max_region_size(&image, m, 0x600, 2), Ok(0x1a00));
     assert_eq!(counter_sys::max_region_size(&image, m, 2, 0x600), Ok(0x600));
     let place = Region { offset: 0x800, size: 0x1800 };
     assert_eq!(counter_sys::allocate(&image, m, 3, 0x400), Ok(place));
     assert_eq!(counter_sys::allocate(&image, m, 0x400, 3), Err(22));
+    let run = |offset| CheapestRun { tried: 2, offset, cost: 0, bound: 0 };
+    assert_eq!(counter_sys::clear(&image, m, 167, 2), Ok(Some(run(0x600))));
+    assert_eq!(counter_sys::clear(&image, m, 2, 167), Ok(Some(run(0x45a))));
     // Number and offset, number and size: 1 is a number, and no place that is free.
     let edited = |edit: &mut dyn FnMut(&mut [u8], &mut Record) -> Result<(), u32>| {
         let (mut edited, given) = (image.clone(), record(1370, 0, 0, 7));

@@ -5,6 +5,8 @@
 
 mod calls;
 mod child;
+mod clearing;
+mod clearing_rules;
 mod codec;
 mod features;
 mod judge;
@@ -35,9 +37,9 @@ use sample::Sample;
 use std::process::exit;
 use std::time::Instant;
 
-const SUITES: [&str; 15] = [
+const SUITES: [&str; 16] = [
     "limits", "numbers", "fills", "records", "teams", "steps", "sheets", "pairs", "maxima",
-    "programs", "names", "tables", "trees", "wishes", "random",
+    "programs", "names", "tables", "trees", "wishes", "runs", "random",
 ];
 
 struct Options {
@@ -206,6 +208,7 @@ fn main() {
             "tables" => suites::tables(&mut run),
             "trees" => suites::trees(&mut run),
             "wishes" => wishes::wishes(&mut run, options.seed, options.images),
+            "runs" => clearing::clearing(&mut run, options.seed, options.images),
             _ => run.random(options.seed, options.images),
         }
     }

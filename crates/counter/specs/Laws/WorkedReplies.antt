@@ -10,7 +10,7 @@ use Rattle.totals.specs.declared.Totals.{Totals}
 use Rattle.window.specs.declared.Window.{Window}
 use Rattle.opened.specs.declared.faults.Owner.TheVariants as owner
 use Rattle.opened.specs.declared.faults.About.TheVariants as about
-use Rattle.counter.specs.Replies.{reply, accepted_reply, reply_of, fault_words, disc_words, disc_totals_words, region_words, one_word, window_in, window_words, totals_words, unit_words, dol_words, program_reply, found_reply, dol_reply, dol_window_reply, done_number, entry_reply, span_reply, sheet_reply}
+use Rattle.counter.specs.Replies.{reply, accepted_reply, reply_of, fault_words, disc_words, disc_totals_words, region_words, one_word, run_words, window_in, window_words, totals_words, unit_words, dol_words, program_reply, found_reply, dol_reply, dol_window_reply, done_number, entry_reply, span_reply, sheet_reply}
 
 -- slots as they were before the call
 abbrev old : List ℕ
@@ -45,6 +45,13 @@ number-slots :
     (reply_of region_words old (Ok (record { offset = 1; size = 2 })) ≡ reply 0 (1 ∷ 2 ∷ [])) ×
     (entry_reply old (Ok tt) 1 ≡ reply 0 (1 ∷ []))
 number-slots = (refl, refl, refl)
+
+-- "answer[4]: how many were tried; where the cheapest of them starts, of equals the first; its cost; and a bound"; "All four are 0 if none was
+-- tried"
+run-slots :
+    (reply_of run_words old (Ok (Some (record { tried = 1; offset = 2; cost = 3; bound = 4 }))) ≡ reply 0 (1 ∷ 2 ∷ 3 ∷ 4 ∷ [])) ×
+    (reply_of run_words old (Ok None) ≡ reply 0 (0 ∷ 0 ∷ 0 ∷ 0 ∷ []))
+run-slots = (refl, refl)
 
 -- "unit[2]: its length in bytes .., and 0, 12 or 13"
 unit-slots :
@@ -118,6 +125,7 @@ refused-slots :
     (reply_of one_word old (Err LimitOrMemory) ≡ reply 9 old) ×
     (reply_of one_word old (Err ExpectedFile) ≡ reply 16 old) ×
     (reply_of region_words old (Err NotEnoughSpace) ≡ reply 21 old) ×
+    (reply_of run_words old (Err NotEnoughSpace) ≡ reply 21 old) ×
     (reply_of one_word old (Err NoSuchEntry) ≡ reply 15 old) ×
     (entry_reply old (Err TotalsOutOfRange) 1 ≡ reply 25 old) ×
     (reply_of window_words old (Err ExpectedFile) ≡ reply 16 old) ×
@@ -126,7 +134,7 @@ refused-slots :
     (dol_reply old (Err InvalidDol) ≡ reply 24 old) ×
     (dol_window_reply old (Err InvalidDol) ≡ reply 24 old)
 unfolding program_reply found_reply
-refused-slots = (refl, refl, refl, refl, refl, refl, refl, refl, refl, refl, refl, refl, refl, refl)
+refused-slots = (refl, refl, refl, refl, refl, refl, refl, refl, refl, refl, refl, refl, refl, refl, refl)
 
 -- "span[2]: offset, size", and as it was on a refusal
 span-slots :

@@ -1,0 +1,20 @@
+-- What follows from the definitions.
+pub mod Members
+pub mod Cheapest
+pub mod Sound
+pub mod Touched
+pub mod CandidateBefore
+pub mod Candidates
+pub mod Floors
+pub mod FreeCandidate
+pub mod InOrder
+pub mod Opened
+pub mod Told
+pub mod NoRun
+pub mod NoneTried
+pub mod RunFound
+pub mod AsCheapAsAny
+pub mod EachCandidate
+pub mod FloorOfAll
+pub mod InTheWay
+pub mod Orders

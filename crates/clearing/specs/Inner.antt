@@ -1,0 +1,3 @@
+-- Definitions that only inner contracts need.
+pub mod Marks
+pub mod Tried
