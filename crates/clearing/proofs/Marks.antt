@@ -1,20 +1,18 @@
 -- The two marks, step by step. Assumes nothing.
-use Rattle.std.specs.Prelude.{ℕ, ◌+◌, ◌-◌, ◌^◌, ◌<◌, ◌≤◌, ◌≡◌, true, false, List, [], ◌∷◌, ◌++◌, ◌==◌, nat_le}
+use Rattle.std.specs.Prelude.{ℕ, ◌+◌, ◌-◌, ◌<◌, ◌≤◌, ◌≡◌, true, List, [], ◌∷◌, ◌++◌, if◌then◌else◌, ◌==◌, nat_le}
 use Rattle.std.proofs.Common.{refl, sym, ap, ◌∙◌, ⊎_elim, arith, eq-eqb, ne_eqb, le-leb}
 use Rattle.std.proofs.lemmas.Bool.{lt-leb}
 use Rattle.refusal.specs.Laws.Tests.{lt-or-le}
 use Rattle.space.specs.declared.region.DiscRegion.{DiscRegion}
 use Rattle.space.specs.Used.{end_of, total_size}
 use Rattle.space.specs.Inner.Sort.{region_at, regions_in}
-use Rattle.space.specs.Inner.Words.{AllNonempty, is_in_sequence, IsSortedDisjoint}
+use Rattle.space.specs.Inner.Words.{AllNonempty, is_in_sequence}
 use Rattle.space.specs.Laws.LongestLaws.{sequence-first, sequence-rest, sequence-le}
 use Rattle.space.specs.Laws.SizeLaws.{total_size-cons}
 use Rattle.space.proofs.Listed.{total-gaps}
 use Rattle.space.proofs.Pairs.{regions-none, regions-split, regions-snoc, regions-more}
-use Rattle.space.specs.Layout.{are_disjoint}
-use Rattle.clearing.specs.declared.candidates.Run.{Run}
-use Rattle.clearing.specs.Clearing.{bytes_from}
-use Rattle.clearing.specs.Inner.Marks.{Sought, started_size, run_behind, runs_behind, AllStartBefore, AreMarks}
+use Rattle.clearing.specs.Inner.Marks.{Search, started_size, runs_behind, AllStartBefore, AreMarks}
+use Rattle.clearing.specs.Inner.Stretches.{AreHeld}
 use Rattle.clearing.proofs.Laws.InOrder.{started-more, started-less}
 
 -- ---- lists of regions
@@ -51,11 +49,17 @@ started-late y a e (r ∷ rs) h s =
     started-less y r rs (omega arith) ∙ started-late y (end_of r) e rs (omega arith) (sequence-rest a e r rs s)
 
 -- from a region that starts at y or behind
-started-behind : (y e : ℕ) (r : DiscRegion) (rs : List DiscRegion) → y ≤ r.offset → is_in_sequence (end_of r) e rs ≡ true → started_size y (r ∷ rs) ≡ 0
+pub started-behind : (y e : ℕ) (r : DiscRegion) (rs : List DiscRegion) → y ≤ r.offset → is_in_sequence (end_of r) e rs ≡ true → started_size y (r ∷ rs) ≡ 0
 started-behind y e r rs h s = started-less y r rs h ∙ started-late y (end_of r) e rs (omega arith) s
 
+-- the run at x costs nothing exactly if it ends before the next region starts
+pub next-free : (y a e : ℕ) (r : DiscRegion) (rs : List DiscRegion) → 0 < r.size → is_in_sequence a e (r ∷ rs) ≡ true → nat_le y r.offset ≡ (started_size y (r ∷ rs) == 0)
+next-free y a e r rs full s =
+    ⊎_elim (λ h. lt-leb y r.offset h ∙ sym (ne_eqb (started_size y (r ∷ rs)) 0 (λ q. omega (arith, started-more y r rs h, full))))
+    (λ h. le-leb y r.offset h ∙ sym (eq-eqb (started_size y (r ∷ rs)) 0 (started-behind y e r rs h (sequence-rest a e r rs s)))) (lt-or-le r.offset y)
+
 -- no run fits behind regions that end too late
-none-fits : (t : Sought) (a : ℕ) (rs : List DiscRegion) → t.disc_end < a + t.size → is_in_sequence a t.disc_end rs ≡ true → runs_behind t rs ≡ []
+pub none-fits : (t : Search) (a : ℕ) (rs : List DiscRegion) → t.disc_end < a + t.size → is_in_sequence a t.disc_end rs ≡ true → runs_behind t rs ≡ []
 unfolding runs_behind
 none-fits t a [] h s = refl
 none-fits t a (r ∷ rs) h s =
@@ -65,23 +69,23 @@ none-fits t a (r ∷ rs) h s =
 
 -- ---- both marks stand before all regions
 
-pub marks-begin : (t : Sought) (w : List ℕ) (m : ℕ) → t.disc_end < 2 ^ 32 → IsSortedDisjoint w m t.disc_end → AreMarks t 0 w m 0 0 0
-marks-begin t w m small o =
-    let z : m - 0 ≡ m = omega arith in
-    let n : 0 - 0 ≡ 0 = omega arith in record {
-      small = small;
+pub marks-begin : (t : Search) (w : List ℕ) (i m : ℕ) → 0 < t.size → AreHeld w i m t.disc_end → AreMarks t 0 w m i i 0
+marks-begin t w i m some o =
+    let n : i - i ≡ 0 = omega arith in record {
+      some = some;
+      small = o.small;
       held = o.held;
       first = omega arith;
-      second = omega arith;
-      full = rw z o.full;
-      order = rw z o.sequence;
-      sizes = rw (n, regions-none w 0 0 refl) (unfold total_size in refl);
-      started = rw (n, regions-none w 0 0 refl) tt;
+      second = o.first;
+      full = o.full;
+      order = o.order;
+      sizes = rw (n, regions-none w i 0 refl) (unfold total_size in refl);
+      started = rw (n, regions-none w i 0 refl) tt;
     }
 
 -- ---- what the marks tell
 
-module _ (t : Sought) (x : ℕ) (w : List ℕ) (m i j between : ℕ) (a : AreMarks t x w m i j between) where
+module _ (t : Search) (x : ℕ) (w : List ℕ) (m i j between : ℕ) (a : AreMarks t x w m i j between) where
   -- the regions that are left, those between the marks and those behind the second
   abbrev rest : List DiscRegion
   rest = regions_in w i (m - i)
@@ -100,12 +104,6 @@ module _ (t : Sought) (x : ℕ) (w : List ℕ) (m i j between : ℕ) (a : AreMar
 
   order-split : is_in_sequence x t.disc_end (passed ++ behind) ≡ true
   order-split = rw split at a.order
-
-  -- behind the last region a run costs nothing
-  pub last-free : i ≡ m → (i == m) ≡ (started_size (x + t.size) rest == 0)
-  last-free e =
-      let n : m - i ≡ 0 = omega arith in
-      eq-eqb i m e ∙ sym (eq-eqb (started_size (x + t.size) rest) 0 (rw (regions-none w i (m - i) n) (unfold started_size total_size in refl)))
 
   -- ---- the first mark passes a region
 
@@ -151,6 +149,7 @@ module _ (t : Sought) (x : ℕ) (w : List ℕ) (m i j between : ℕ) (a : AreMar
         let h : i < j = some-between some in
         let o : x ≤ r.offset = sequence-first x t.disc_end r rest' order-here in
         let s : AllStartBefore (x + t.size) (r ∷ regions_in w (i + 1) (j - (i + 1))) = rw (passed-first h) at a.started in record {
+          some = a.some;
           small = a.small;
           held = a.held;
           first = omega arith;
@@ -162,50 +161,26 @@ module _ (t : Sought) (x : ℕ) (w : List ℕ) (m i j between : ℕ) (a : AreMar
         }
 
     -- nothing was between the marks: the second passes it too
-    pub passed-with : between ≡ 0 → AreMarks t (end_of r) w m (i + 1) (j + 1) between
+    pub passed-with : between ≡ 0 → AreMarks t (end_of r) w m (i + 1) (i + 1) between
     passed-with none =
         let e : j ≡ i = none-between none in
-        let n : j + 1 - (i + 1) ≡ 0 = omega arith in record {
+        let n : i + 1 - (i + 1) ≡ 0 = omega arith in record {
+          some = a.some;
           small = a.small;
           held = a.held;
           first = omega arith;
           second = omega arith;
           full = full-here.1;
           order = sequence-rest x t.disc_end r rest' order-here;
-          sizes = rw (regions-none w (i + 1) (j + 1 - (i + 1)) n) (unfold total_size in (sym none));
-          started = rw (regions-none w (i + 1) (j + 1 - (i + 1)) n) tt;
+          sizes = rw (regions-none w (i + 1) (i + 1 - (i + 1)) n) (unfold total_size in (sym none));
+          started = rw (regions-none w (i + 1) (i + 1 - (i + 1)) n) tt;
         }
 
-    pub second-within : between ≡ 0 → j < m
-    second-within none = omega (arith, none-between none)
-
-    module _ (all : List Run) (left : runs_behind t rest ≡ all) where
-      left-here : runs_behind t (r ∷ rest') ≡ all
-      left-here = rw is at left
-
-      -- the run behind it fits, and spares the program or does not
-      module _ (fits : end_of r + t.size ≤ t.disc_end) where
-        pub with-room : are_disjoint (bytes_from (end_of r) t.size) t.program ≡ true → all ≡ run_behind t r rest' ∷ runs_behind t rest'
-        unfolding runs_behind
-        with-room h = sym left-here ∙ rw (le-leb (end_of r + t.size) t.disc_end fits, h)
-
-        pub no-room : are_disjoint (bytes_from (end_of r) t.size) t.program ≡ false → runs_behind t rest' ≡ all
-        unfolding runs_behind
-        no-room h = (rw (le-leb (end_of r + t.size) t.disc_end fits, h)) ∙ left-here
-
-      -- it does not, and none behind it does
-      pub none-left : t.disc_end < end_of r + t.size → (all ≡ []) × (runs_behind t rest' ≡ [])
-      unfolding runs_behind
-      none-left late =
-          let later : runs_behind t rest' ≡ [] = none-fits t (end_of r) rest' late (sequence-rest x t.disc_end r rest' order-here) in
-          (sym left-here ∙ rw (lt-leb (end_of r + t.size) t.disc_end late, later), later)
-
-    -- the run at x costs nothing exactly if it ends before the next region starts
-    pub next-free : nat_le (x + t.size) r.offset ≡ (started_size (x + t.size) rest == 0)
-    next-free =
-        rw is
-        (⊎_elim (λ h. rw (lt-leb (x + t.size) r.offset h, ne_eqb (started_size (x + t.size) (r ∷ rest')) 0 (λ e. omega (arith, started-more (x + t.size) r rest' h, full-here.0))))
-        (λ h. rw (le-leb (x + t.size) r.offset h, started-behind (x + t.size) t.disc_end r rest' h (sequence-rest x t.disc_end r rest' order-here))) (lt-or-le r.offset (x + t.size)))
+    -- one way or the other, both marks are behind it
+    pub passed-region : AreMarks t (end_of r) w m (i + 1) (if between == 0 then i + 1 else j) (if between == 0 then 0 else between - r.size)
+    passed-region =
+        ⊎_elim (λ h. rw (ne_eqb between 0 (λ e. omega arith)) (left-behind (λ e. omega arith)))
+        (λ h. let z : between ≡ 0 = omega arith in rw (eq-eqb between 0 z) (rw z at (passed-with z))) (lt-or-le 0 between)
 
   -- ---- the second mark passes a region
 
@@ -247,6 +222,7 @@ module _ (t : Sought) (x : ℕ) (w : List ℕ) (m i j between : ℕ) (a : AreMar
         let n : j + 1 - i ≡ j - i + 1 = omega (arith, a.first) in
         let k : i + (j - i) ≡ j = omega (arith, a.first) in
         let s : regions_in w i (j + 1 - i) ≡ passed ++ (region_at w j ∷ []) = rw n (rw k at (regions-snoc w i (j - i))) in record {
+          some = a.some;
           small = a.small;
           held = a.held;
           first = omega (arith, a.first);
@@ -259,31 +235,3 @@ module _ (t : Sought) (x : ℕ) (w : List ℕ) (m i j between : ℕ) (a : AreMar
       where
         none : total_size [] ≡ 0
         none = unfold total_size in refl
-
--- behind the last region there is no run
-pub none-behind : (t : Sought) (w : List ℕ) (i m : ℕ) → m ≤ i → runs_behind t (regions_in w i (m - i)) ≡ []
-unfolding runs_behind
-none-behind t w i m h = let n : m - i ≡ 0 = omega arith in rw (regions-none w i (m - i) n)
-
--- ---- what the loops keep
-
--- regions behind which there is no room were passed
-pub record IsPassing (s : Sought) (w : List ℕ) (m : ℕ) (all : List Run) (t : Sought) (x : ℕ) (w' : List ℕ) (m' i j between : ℕ) : Type 0 where
-  pub same : t ≡ s
-  pub words : w' ≡ w
-  pub count : m' ≡ m
-  pub marks : AreMarks t x w' m' i j between
-  pub left : runs_behind t (regions_in w' i (m' - i)) ≡ all
-
--- the second mark has moved
-pub record IsCounting (s : Sought) (y : ℕ) (w : List ℕ) (m i : ℕ) (t : Sought) (x : ℕ) (w' : List ℕ) (m' i' j between : ℕ) : Type 0 where
-  pub same : t ≡ s
-  pub offset : x ≡ y
-  pub words : w' ≡ w
-  pub count : m' ≡ m
-  pub first : i' ≡ i
-  pub marks : AreMarks t x w' m' i' j between
-
-module _ (s : Sought) (y : ℕ) (w : List ℕ) (m i : ℕ) (t : Sought) (x : ℕ) (w' : List ℕ) (m' i' j between : ℕ) (c : IsCounting s y w m i t x w' m' i' j between) where
-  pub counted : started_size (x + t.size) (regions_in w' i' (m' - i')) ≡ between → between ≡ started_size (y + s.size) (regions_in w i (m - i))
-  counted e = sym (rw (c.same, c.offset, c.words, c.count, c.first) at e)

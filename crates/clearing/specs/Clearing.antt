@@ -1,9 +1,9 @@
--- A run: so many bytes in a row for a new file, and what lies in its way (RULES, A run to clear). Assumes
--- nothing: these are definitions.
+-- A run: so many bytes in a row for a new file, and what lies in its way (RULES, A run to clear).
+-- Assumes nothing: these are definitions.
 use Rattle.std.specs.Prelude.{Option, Some, None, Result, Ok, Err}
-use Rattle.std.specs.Prelude.{ℕ, zero, suc, ◌+◌, ◌-◌, min, max, Bool, not, ◌&&◌, ◌||◌, if◌then◌else◌, ◌==◌, nat_lt, nat_le}
+use Rattle.std.specs.Prelude.{ℕ, suc, ◌+◌, ◌-◌, min, max, Bool, not, ◌&&◌, ◌||◌, if◌then◌else◌, ◌==◌, nat_lt, nat_le}
 use Rattle.std.specs.Prelude.{List, [], ◌∷◌, length, map, take, filter}
-use Rattle.std.specs.List.{fold, list_any}
+use Rattle.std.specs.List.{fold, list_any, range_with_len}
 use Rattle.refusal.specs.declared.Refusal.{Refusal}
 use Rattle.refusal.specs.declared.Refusal.TheVariants.{NotEnoughSpace}
 use Rattle.header.specs.Verdicts.{disc_end, table_end}
@@ -64,14 +64,10 @@ cost_of o n x = total_size (files_touched o n x)
 abbrev pub is_end_of_use : Occupancy → ℕ → Bool
 is_end_of_use o x = list_any (λ r. end_of r == x) (used_by o)
 
--- of the m numbers from x on, those that pass a test
-unfoldable pub passing : (ℕ → Bool) → ℕ → ℕ → List ℕ
-passing p x zero = []
-passing p x (suc m) = if p x then x ∷ passing p (suc x) m else passing p (suc x) m
-
 -- where the runs start that start at such an end, rising
 unfoldable pub candidates : Occupancy → ℕ → List ℕ
-candidates o n = passing (λ x. is_end_of_use o x && is_run o n x) 0 (suc o.disc_end)
+candidates o n =
+    filter (λ x. is_end_of_use o x && is_run o n x) (range_with_len 0 (suc o.disc_end))
 
 -- ---- the answer
 
@@ -89,8 +85,8 @@ abbrev pub bound_of : Occupancy → ℕ → ℕ → ℕ → ℕ
 bound_of o n budget c = if nat_le (length (candidates o n)) budget then 0 else c - floor_of o n
 
 -- the answer where the cheapest run tried starts at x
-abbrev pub told_of : Occupancy → ℕ → ℕ → ℕ → CheapestRun
-told_of o n budget x = record {
+abbrev pub answer_at : Occupancy → ℕ → ℕ → ℕ → CheapestRun
+answer_at o n budget x = record {
   tried = min budget (length (candidates o n));
   offset = x;
   cost = cost_of o n x;
@@ -100,7 +96,7 @@ told_of o n budget x = record {
 -- of those tried: none where none was
 abbrev pub cheapest_of : Occupancy → ℕ → ℕ → List ℕ → Option CheapestRun
 cheapest_of o n budget [] = None
-cheapest_of o n budget (x ∷ xs) = Some (told_of o n budget (fold (cheaper_of o n) x xs))
+cheapest_of o n budget (x ∷ xs) = Some (answer_at o n budget (fold (cheaper_of o n) x xs))
 
 -- as many candidates are tried as the budget allows, the first ones
 unfoldable pub cheapest_run : Occupancy → ℕ → ℕ → Result (Option CheapestRun) Refusal

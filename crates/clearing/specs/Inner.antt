@@ -1,3 +1,4 @@
 -- Definitions that only inner contracts need.
 pub mod Marks
+pub mod Stretches
 pub mod Tried

@@ -1,6 +1,6 @@
--- What an answer says of every run, wherever it starts (RULES, A run to clear). Proved in proofs/Laws:
--- `no-run`, `none-tried`, `run-found`, `as-cheap-as-any`, `each-candidate`, `floor-of-all` and
--- `in-the-way`.
+-- What an answer says of every run, wherever it starts (RULES, A run to clear). Proved in
+-- proofs/Laws: `no-run`, `none-tried`, `run-found`, `as-cheap-as-any`, `each-candidate`,
+-- `floor-of-all` and `in-the-way`.
 -- Assumes nothing: these are definitions.
 use Rattle.std.specs.Prelude.{Some, None, Ok, Err}
 use Rattle.std.specs.Prelude.{ℕ, ◌+◌, ◌-◌, ◌<◌, ◌≤◌, min, max, ◌≡◌, ◌⊎◌, ◌↔◌, true, false, List, ◌∷◌, length, take, filter, Contains}
@@ -9,7 +9,7 @@ use Rattle.endian.specs.Bytes.{AllBytes}
 use Rattle.refusal.specs.declared.Refusal.TheVariants.{NotEnoughSpace}
 use Rattle.header.specs.Verdicts.{disc_end, table_end}
 use Rattle.space.specs.declared.region.DiscRegion.{DiscRegion}
-use Rattle.space.specs.Used.{end_of, is_inside, is_used, used_regions, used_total}
+use Rattle.space.specs.Used.{end_of, is_inside, is_used, used_regions, total_size, used_total}
 use Rattle.space.specs.Layout.{are_disjoint}
 use Rattle.executable.specs.Program.{program_behind}
 use Rattle.opened.specs.Opening.{opening, used_in, used_of}
@@ -22,8 +22,8 @@ pub record IsRun (image : List ℕ) (n x : ℕ) : Type 0 where
   pub on_disc : x + n ≤ disc_end image
   pub spares_program : (i : ℕ) → x ≤ i → i < x + n → is_inside (program_behind image) i ≡ false
 
--- THEOREM: refused for room exactly if no byte is asked for or no start at all gives a run, whatever
--- the budget
+-- THEOREM: refused for room exactly if no byte is asked for or no start at all gives a run,
+-- whatever the budget
 abbrev pub NoRun : Type 0
 NoRun =
     (image : List ℕ) (words n budget : ℕ) → AllBytes image → opening image words ≡ Ok tt →
@@ -56,11 +56,9 @@ pub record IsCheapestRun (image : List ℕ) (n budget : ℕ) (found : CheapestRu
       found.cost ≤ cost_of (occupancy_of image) n x
   pub first : (x : ℕ) → Contains (take budget (candidates (occupancy_of image) n)) x →
       x < found.offset → found.cost < cost_of (occupancy_of image) n x
-  -- no run is cheaper by more than the bound, and none costs less than the floor
+  -- no run is cheaper by more than the bound
   pub near : (x : ℕ) → IsRun image n x → found.cost ≤ cost_of (occupancy_of image) n x + found.bound
-  pub floor : (x : ℕ) → IsRun image n x →
-      floor_of (occupancy_of image) n ≤ cost_of (occupancy_of image) n x
-  -- so none is cheaper where all candidates were tried
+  -- so none is cheaper where all candidates were tried; else it costs so much more than the floor
   pub all : length (candidates (occupancy_of image) n) ≤ budget → found.bound ≡ 0
   pub part : budget < length (candidates (occupancy_of image) n) →
       found.bound + floor_of (occupancy_of image) n ≡ found.cost
@@ -75,8 +73,7 @@ AsCheapAsAny =
 -- THEOREM: the candidates are the runs that start where a used region ends, rising
 abbrev pub EachCandidate : Type 0
 EachCandidate =
-    (image : List ℕ) (words n : ℕ) → AllBytes image → opening image words ≡ Ok tt →
-    IsStrictlyIncreasing (candidates (occupancy_of image) n)
+    (image : List ℕ) (n : ℕ) → IsStrictlyIncreasing (candidates (occupancy_of image) n)
     × ((x : ℕ) → Contains (candidates (occupancy_of image) n) x
     ↔ (IsRun image n x × ((r : DiscRegion) × Contains (used_in image) r × (end_of r ≡ x))))
 
@@ -87,14 +84,17 @@ pub record IsFreeRow (image : List ℕ) (n x : ℕ) : Type 0 where
 
 -- the floor: 0 where so many free bytes stand in a row; else what is wanted beyond all free bytes
 pub record IsFloor (image : List ℕ) (n : ℕ) : Type 0 where
-  pub none : (x : ℕ) → IsFreeRow image n x → floor_of (occupancy_of image) n ≡ 0
-  pub some : ((x : ℕ) → IsFreeRow image n x → ⊥) →
+  pub row : (x : ℕ) → IsFreeRow image n x → floor_of (occupancy_of image) n ≡ 0
+  pub no_row : ((x : ℕ) → IsFreeRow image n x → ⊥) →
       floor_of (occupancy_of image) n ≡ max (n - (disc_end image - used_of image)) 1
+  -- no run costs less, wherever it starts
+  pub least : (x : ℕ) → IsRun image n x →
+      floor_of (occupancy_of image) n ≤ cost_of (occupancy_of image) n x
 
--- THEOREM: the floor is that of every size but 0
+-- THEOREM: the floor is that of every size
 abbrev pub FloorOfAll : Type 0
 FloorOfAll =
-    (image : List ℕ) (words n : ℕ) → AllBytes image → opening image words ≡ Ok tt → 0 < n →
+    (image : List ℕ) (words n : ℕ) → AllBytes image → opening image words ≡ Ok tt →
     IsFloor image n
 
 -- the files that a run does not touch
@@ -103,6 +103,9 @@ files_left o n x = filter (λ f. are_disjoint (bytes_from x n) f) o.files
 
 -- of a run of n bytes at x
 pub record IsInTheWay (image : List ℕ) (n x : ℕ) : Type 0 where
+  -- it costs the sizes of the files that it touches
+  pub sizes :
+      cost_of (occupancy_of image) n x ≡ total_size (files_touched (occupancy_of image) n x)
   -- with the touched files gone all its bytes are free
   pub cleared : (i : ℕ) → x ≤ i → i < x + n →
       is_used (used_regions (table_end image)

@@ -1,10 +1,9 @@
-// A run of bytes for a large file: where it costs the least to make room, and what lies in its way there.
+// A run of bytes for a large file: where the least bytes of files have to be moved away for it.
 #![tactic(auto)]
 
-mod candidates;
 mod clear;
+mod stretch;
 mod theorems;
-mod tried;
 
 pub use clear::{CheapestRun, clear_run};
 pub use theorems::{

@@ -29,7 +29,8 @@ pub fn each_candidate()
     ensures { EachCandidate }
 {}
 
-// The floor is 0 where so many free bytes stand in a row, else what is wanted beyond all free bytes, 1 at least.
+// The floor is 0 where so many free bytes stand in a row, else what is wanted beyond all free bytes, 1 at
+// least.
 pub fn floor_of_all()
     ensures { FloorOfAll }
 {}

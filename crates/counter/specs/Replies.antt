@@ -82,7 +82,7 @@ one_word n = n ∷ []
 abbrev pub unit_words : FirstUnit → List ℕ
 unit_words u = u.len ∷ number_told u.verdict ∷ []
 
--- of the runs that were tried, of which there is one at least, how many, and the cheapest; zeros where none was
+-- how many runs were tried, one at least, and the cheapest of them; zeros where none was
 abbrev pub run_words : Option CheapestRun → List ℕ
 run_words None = replicate 4 0
 run_words (Some run) = run.tried ∷ run.offset ∷ run.cost ∷ run.bound ∷ []

@@ -1,5 +1,5 @@
-//! The cheapest run to clear, beside an opening of the same image: sizes for which a run touches no file, some, and thousands, and every
-//! budget from none to more than there are candidates.
+//! The cheapest run to clear, beside an opening of the same image: sizes for which a run touches no file,
+//! some, and thousands, and every budget from none to more than there are candidates.
 
 use crate::calls::Table;
 use crate::images::{self, KINDS, Node, Plan};

@@ -5,7 +5,7 @@ use crate::failure::{Failure, Measures, Whose};
 use crate::json::Json;
 use crate::names;
 use crate::teams::{NONE, Names, OPEN};
-use crate::text::{counted, grouped, width};
+use crate::text::{bytes, counted, grouped, width};
 use counter_sys::{Record, TEAMS, Team};
 use std::fmt::Write;
 
@@ -150,10 +150,6 @@ fn numbers<const N: usize>(line: &str, words: [&str; N]) -> Option<[u32; N]> {
 }
 
 // What is said ----------------------------------------------------------------------------
-
-fn bytes(number: u64) -> String {
-    counted(number as usize, "byte", "bytes")
-}
 
 /// What a team has not yet taken of its share.
 fn left_of_share(team: &Team) -> u64 {

@@ -75,16 +75,21 @@ impl Anew {
             }
             // That is told with the maximum.
             Rewrite::Refused(26, _) => None,
-            Rewrite::Refused(number, why) => Some(format!(
-                "a rewrite, and every edit that writes the table, is refused {number} ({}): {why}",
-                cause(*number).unwrap_or_default()
-            )),
+            Rewrite::Refused(number, why) => Some(all_refused(*number, why)),
             Rewrite::Untried(_) => Some(self.words()),
         };
         let departs = self.departs.as_ref().map(|(at, what)| {
             format!("what a rewrite would write differs from the table first at {at:#x}, {what}")
         });
         departs.into_iter().chain(told).collect()
+    }
+
+    /// Where it is refused, and with it every edit that writes the table: the number, and more in words.
+    pub fn refusal(self) -> Option<(u32, String)> {
+        match self.rewrite {
+            Rewrite::Refused(number, why) => Some((number, why)),
+            Rewrite::Done(_) | Rewrite::Untried(_) => None,
+        }
     }
 
     /// What becomes of the image, in words.
@@ -167,6 +172,12 @@ fn tried(table: &[u8], image: &Image, desk: &mut Desk, disc: &Disc) -> Outcome<R
         ))),
         Err(failure) => refusal(failure),
     }
+}
+
+/// What a rewrite's refusal says of other edits.
+pub fn all_refused(number: u32, why: &str) -> String {
+    let cause = cause(number).unwrap_or_default();
+    format!("a rewrite, and every edit that writes the table, is refused {number} ({cause}): {why}")
 }
 
 fn refusal(failure: Failure) -> Outcome<Rewrite> {

@@ -3,7 +3,7 @@
 
 use crate::failure::{Failure, Outcome};
 use crate::names;
-use crate::text::{nearest, number, one_line};
+use crate::text::{count, nearest, number, one_line};
 use std::ffi::{OsStr, OsString};
 use std::os::unix::ffi::OsStringExt;
 use std::path::{Path, PathBuf};
@@ -621,16 +621,27 @@ the table. It costs the sizes of the files that have a byte of it, each file who
 Candidates are the runs that start where the table, a file that is not empty or such a program ends, from the table \
 on. The cheapest one that was tried is told, of equal ones the first. With all of them tried no run is cheaper, \
 wherever it starts; else it is told by how many bytes another may be, at most.
-Each file in it goes to a place that is free and outside of the run, if there is one: the largest file first, into the \
-smallest free region that has room, on a multiple of the power of two, up to 0x8000, that it lies on now, or where no \
-such place is left on one of 4, or on any. What a file leaves outside of the run is for those after it. The moves are \
-tried on a private copy, at most 1,024 of them, as many as a sheet has; one that is refused, and why, is told. Where \
-an edit would write a table that ends in the run, which one with shared names does when it is written anew, no moves \
-are told: a rewrite comes first.
+Each file in it goes to a place that is free and outside of the run, if there is one: the largest file first, into \
+the smallest free region that has room, but last into that right behind the table, where further entries need room; \
+on a multiple of the power of two, up to 0x8000, that it lies on now, or where no such place is left on one of 4, or \
+on any. What a file leaves outside of the run is for those after it. The moves are tried on a private copy, at most \
+1,024 of them, as many as a sheet has. Where the next edit would write a table that ends behind the run's start, \
+which one with shared names does when it is written anew, no moves are told: a rewrite comes first. Nor are any where \
+every edit that writes a table is refused, which is told with its cause.
+Where a file has no place, or no command moves it, another run may do, which costs more: one is told if it is the \
+cheapest of fewer candidates, or of a larger SIZE, as far as these are looked through. More than all free bytes no \
+move makes free: files have to be made smaller.
 A new file's entry makes the table longer, and a run may start at the table's end. So add the file first, empty; ask; \
-make the moves; then move the file to the run's offset, and fill it. Games' files begin on multiples of 0x8000: for one \
-in the run ask for 0x7fff bytes more, and move the file to the offset that is told as aligned.
-Where there is no such run (21), it is told how long one can be. A budget of 0 tries none.";
+make the moves; then move the file to the run, and fill it. It goes to the run's first multiple of 0x8000, as games' \
+files have it, if SIZE bytes are free from there on once the moves are made, else to its first multiple of 4, from \
+where up to 3 fewer may be free: then ask for 3 more. How many bytes it may have there is told. To have it on a \
+multiple of 0x8000 in any case ask for 0x7fff bytes more than it has, and take the one that is told. Right behind the \
+table it leaves no room for a further entry, which is told.
+A record goes by every edit: give --record, and --team, with each of the commands that are told. For the licence \
+check the files that are moved belong on LIST: `counter sheet --show OUT` has their paths, each between `move` and a \
+number.
+Where there is no such run (21), it is told how long one can be. A budget of 0 tries none. --sheet makes no sheet \
+(65) where there are no moves, or where they do not free the run.";
 
 const TOTALS: &str = "\
 After every edit its record is told: used and free bytes, the size of the largest free region (0 if there \
@@ -994,15 +1005,17 @@ impl Args {
             "--team" => self.team = Some(given("a team's name or number")?),
             "--from" if self.from.is_some() || self.first.is_some() => return Err(twice()),
             "--from" if self.form.name == "sheet" => {
-                self.first = Some(counted(given("the number of a line")?)?);
+                self.first = Some(count_given(given("the number of a line")?)?);
             }
             "--from" => self.from = Some(file()?),
             "--size" if self.size.is_some() => return Err(twice()),
-            "--size" => self.size = Some(counted(given("a number of bytes")?)?),
+            "--size" => self.size = Some(number_given(given("a number of bytes")?)?),
             "--clear" if self.clear.is_some() => return Err(twice()),
-            "--clear" => self.clear = Some(counted(given("a number of bytes")?)?),
+            "--clear" => self.clear = Some(number_given(given("a number of bytes")?)?),
             "--budget" if self.budget.is_some() => return Err(twice()),
-            "--budget" => self.budget = Some(counted(given("a number of candidates")?)?),
+            "--budget" => {
+                self.budget = Some(count_given(given("a number of candidates")?)?);
+            }
             "--sheet" if self.sheet.is_some() => return Err(twice()),
             "--sheet" => self.sheet = Some(file()?),
             "--empty" => self.empty = true,
@@ -1061,9 +1074,14 @@ impl Args {
     }
 }
 
-/// The value of an option that is a number.
-fn counted(given: OsString) -> Outcome<u32> {
+/// The value of an option that is an offset or a size.
+fn number_given(given: OsString) -> Outcome<u32> {
     number(&given.into_vec()).map_err(Failure::usage)
+}
+
+/// That of one that is another number.
+fn count_given(given: OsString) -> Outcome<u32> {
+    count(&given.into_vec()).map_err(Failure::usage)
 }
 
 impl Form {

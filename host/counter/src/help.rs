@@ -213,13 +213,15 @@ const FIELDS: &[(&str, &str)] = &[
         "clear",
         "image size budget tried all_tried offset end aligned cost bound files[number path path_bytes offset size to \
          detail] no_place largest_left table_in_run moves[path path_bytes offset] accepted refusal{number cause \
-         detail} untried out notes[...]; budget: null where all are tried; all_tried: whether there are no more \
+         detail} untried clears place room out notes[...]; budget: null where all are tried; all_tried: whether there are no more \
          candidates; aligned: the run's first multiple of 0x8000, or null; to: where a file goes, or null, and detail \
          why it stays; no_place: how many stay; largest_left: the largest free region that is left outside of the \
-         run; table_in_run: where the table ends that the next edit writes, if that is in the run, else null: then \
-         no_place is null and there are no moves; moves: in an order in which each is accepted; accepted: how many \
-         of them, from the first on, a private copy accepted; refusal: of the first one, or null; untried: why there \
-         is no such copy, or null; out: OUT of --sheet, or null. With a budget of 0 tried is 0, files and moves are \
+         run; table_in_run: where the table ends that the next edit writes, if that is behind the run's start, else \
+         null; refusal: of every edit that writes a table, or null; with either no_place is null and there are no \
+         moves; moves: in an order in which each is accepted; accepted: how many of them, from the first on, a \
+         private copy accepted; untried: why there is no such copy, or null; clears: whether the run is free once \
+         the moves are made, all of which were accepted, and a new file can go there; place: where it goes, and \
+         room: how many bytes are free from there on then, or null; out: OUT of --sheet, or null. With a budget of 0 tried is 0, files and moves are \
          empty, and what is not known is null",
     ),
     (
@@ -488,7 +490,7 @@ fn statuses() -> String {
          \x20     100,000 files;\n\
          \x20     sheet: a TEXT that is wrong, with line and column, or a sheet already; a sheet or a text of more\n\
          \x20     than 16 MiB;\n\
-         \x20     clear: --sheet where the next edit writes a table that ends in the run\n\
+         \x20     clear: --sheet where there are no moves, or where they do not free the run\n\
          \x20 66  no such image or clip, or a folder in its place, or a special file in the image's;\n\
          \x20     --given, --from, --teams LIST: no such LIST, or a folder in its place; sheet: no such FILE or\n\
          \x20     TEXT, or a folder in its place; after a line that a failing page cut, no FILE or another one;\n\

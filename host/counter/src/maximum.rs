@@ -7,11 +7,11 @@ use crate::failure::{Failure, Measures, Outcome};
 use crate::header::Header;
 use crate::image::{Desk, Image};
 use crate::json::Json;
-use crate::text::{counted, grouped, line, size};
+use crate::text::{bytes, grouped, line, size};
 use counter_sys::{Memory, Opened, Record};
 
 /// The least that an entry adds to the table: 12 bytes, a name of one, and its zero byte.
-const LEAST_ENTRY: u64 = 14;
+pub const LEAST_ENTRY: u64 = 14;
 
 /// Sizes in bytes.
 pub struct Maximum {
@@ -105,10 +105,6 @@ impl Maximum {
             )),
         }
     }
-}
-
-fn bytes(number: u64) -> String {
-    counted(number as usize, "byte", "bytes")
 }
 
 // Refusals --------------------------------------------------------------------------------

@@ -1,22 +1,20 @@
 //! The moves that clear a run: each file in its way to a place that is free and outside of it. They are tried
 //! on a private copy.
 
-use crate::account::{self, Turn};
-use crate::call::{Call, Wish};
-use crate::disc::{Disc, Space, TOO_LONG, table_anew, table_end};
+use crate::account;
+use crate::anew::Anew;
+use crate::cause::cause;
+use crate::disc::{Disc, Space, TOO_LONG, table_end};
 use crate::failure::{Failure, INPUT_OUTPUT, INTERNAL, Outcome};
 use crate::header::FST_SIZE_AT;
 use crate::image::{Desk, Image};
 use crate::places::{Rooms, copied, plan};
 use crate::progress::Progress;
-use crate::record::fresh;
 use crate::sheet::{self, Kind, Line};
-use crate::trial::try_out;
 use crate::way::{Blocking, Way, span};
 use counter_sys::{self as counter, MOST_LINES, MOST_PATH, Region, Stopped};
 use std::collections::HashSet;
 use std::ops::Range;
-use std::slice;
 
 /// What becomes of a file in the way.
 #[derive(Clone, Copy, PartialEq, Eq)]
@@ -24,7 +22,7 @@ pub enum Goes {
     To(u32),
     /// Nothing that is left has room for it.
     NoPlace,
-    /// No command reaches it, since its path leads to another entry.
+    /// No command reaches it, since another entry's path is the same, or that of a folder above it.
     Hidden,
     /// The same, since its path is longer than any may be.
     TooLong,
@@ -36,21 +34,36 @@ impl Goes {
     /// Why it stays.
     pub fn detail(self) -> Option<&'static str> {
         match self {
-            Goes::To(_) | Goes::Unasked => None,
+            Goes::To(_) => None,
             Goes::NoPlace => Some("no free place is left for it"),
-            Goes::Hidden => Some("its path leads to another entry"),
+            Goes::Unasked => Some("no place was looked for"),
+            Goes::Hidden => Some("its path does not lead to it"),
             Goes::TooLong => Some(TOO_LONG),
         }
     }
 }
 
-/// What became of the moves on a private copy.
-pub enum Trial {
-    Accepted,
-    /// The first one is refused, and so is every edit that writes a table.
-    Refused(Failure),
-    /// There is no such copy: why.
-    Untried(String),
+/// What the next edit does to the table, whatever it moves.
+pub struct NextTable {
+    /// Why it is refused, and every edit that writes a table.
+    pub refusal: Option<(u32, String)>,
+    /// Where it ends then, and where it ends now.
+    pub end: u64,
+    now: u64,
+}
+
+impl NextTable {
+    pub fn read(image: &Image, desk: &mut Desk, disc: &Disc) -> Outcome<NextTable> {
+        let anew = Anew::read(image, desk, disc)?;
+        let len = anew.table.as_ref().map_or(0, |table| table.len() as u64);
+        let end = u64::from(disc.opened.fst_offset) + len;
+        Ok(NextTable { refusal: anew.refusal(), end, now: table_end(&disc.opened) })
+    }
+
+    /// What lies from here on is apart from both.
+    fn both(&self) -> u64 {
+        self.end.max(self.now)
+    }
 }
 
 pub struct Moves<'a> {
@@ -61,38 +74,36 @@ pub struct Moves<'a> {
     order: Vec<(usize, u32)>,
     /// The largest free region outside of the run, once all are made.
     pub largest_left: u64,
-    /// Where the table ends that the next edit writes, if that is in the run: then no place is looked for.
-    pub table_in_run: Option<u64>,
-    pub trial: Trial,
+    /// Where the free bytes end that the run is a part of then; its own end where it is not free.
+    pub end: u64,
+    /// Where no place is looked for, since the next edit is refused, or writes a table that ends behind the
+    /// run's start.
+    is_unasked: bool,
+    /// Why they are not tried on a private copy.
+    pub untried: Option<String>,
 }
 
 impl<'a> Moves<'a> {
-    pub fn of(image: &Image, desk: &mut Desk, disc: &Disc, way: &'a Way<'a>) -> Outcome<Moves<'a>> {
+    pub fn planned(disc: &Disc, way: &'a Way<'a>, next: &NextTable) -> Moves<'a> {
         let (files, run) = (&way.files[..], way.span());
-        // Where a limit refuses such a table (9), it refuses the moves.
-        let anew = table_anew(image, desk).map_or(0, |table| table.len() as u64);
-        let anew = u64::from(disc.opened.fst_offset) + anew;
-        let tables = anew.max(table_end(&disc.opened));
-        let free = || disc.free.iter().map(|region| span(region.offset, region.size));
-        let mut rooms = Rooms::new(free(), &run, tables);
+        let mut rooms = Rooms::new(free(disc), &run, next.both());
         let mut moves = Moves {
             files,
             goes: vec![Goes::Unasked; files.len()],
             order: Vec::new(),
             largest_left: 0,
-            table_in_run: (anew > run.start).then_some(anew),
-            trial: Trial::Accepted,
+            end: run.end,
+            is_unasked: next.refusal.is_some() || next.end > run.start,
+            untried: None,
         };
-        if moves.table_in_run.is_none() {
+        if !moves.is_unasked {
             moves.plan(disc, &mut rooms);
         }
         moves.largest_left = rooms.largest();
-        if !moves.order.is_empty() {
-            let table = disc.opened.fst_offset as usize..tables as usize;
-            let given = (table, &copied(free(), files, tables)[..], &run);
-            moves.trial = moves.tried(image, desk, disc, given)?;
+        if moves.frees_run() {
+            moves.end = rooms.end();
         }
-        Ok(moves)
+        moves
     }
 
     fn plan(&mut self, disc: &Disc, rooms: &mut Rooms) {
@@ -117,7 +128,7 @@ impl<'a> Moves<'a> {
 
     /// How many files have none; not known where no place was looked for.
     pub fn stay(&self) -> Option<usize> {
-        self.table_in_run.is_none().then(|| self.files.len() - self.count())
+        (!self.is_unasked).then(|| self.files.len() - self.count())
     }
 
     /// Each with its file.
@@ -138,49 +149,48 @@ impl<'a> Moves<'a> {
 
     /// How many were tried and are accepted.
     pub fn accepted(&self) -> usize {
-        match self.trial {
-            Trial::Accepted => self.count().min(MOST_LINES),
-            Trial::Refused(_) | Trial::Untried(_) => 0,
-        }
+        if self.untried.is_some() { 0 } else { self.count().min(MOST_LINES) }
     }
 
-    /// Whether the run is free once they are made, if each can be.
-    pub fn clear_it(&self) -> bool {
-        self.stay() == Some(0) && !matches!(self.trial, Trial::Refused(_))
+    /// Whether the run is free once they are made.
+    pub fn frees_run(&self) -> bool {
+        self.stay() == Some(0)
     }
 
-    /// The moves on a private copy, a few at once, so that what they write there takes little memory. `table`
-    /// is where the table lies before and after, `copied` what none but they look at.
-    fn tried(
-        &self,
+    /// Tries them on a private copy, a few at once, so that what they write there takes little memory.
+    pub fn try_out(
+        &mut self,
         image: &Image,
         desk: &mut Desk,
         disc: &Disc,
-        (table, copied, run): (Range<usize>, &[Range<u64>], &Range<u64>),
-    ) -> Outcome<Trial> {
+        next: &NextTable,
+        run: Range<u64>,
+    ) -> Outcome<()> {
         const AT_ONCE: usize = 16;
+        if self.order.is_empty() {
+            return Ok(());
+        }
         let _progress = Progress::start("trying the moves", 0);
+        let table = disc.opened.fst_offset as usize..next.both() as usize;
         let kept = [FST_SIZE_AT..FST_SIZE_AT + 4, table];
+        let copied = copied(free(disc), self.files, next.both());
         let lines = self.lines();
         let mut record = account::open(disc.opened.used);
         let mut last: Option<Image> = None;
-        for (turn, lines) in lines.chunks(AT_ONCE).enumerate() {
-            let mut copy = match last.as_ref().unwrap_or(image).trial(copied, &kept) {
+        for (before, lines) in (0..).step_by(AT_ONCE).zip(lines.chunks(AT_ONCE)) {
+            let mut copy = match last.as_ref().unwrap_or(image).trial(&copied, &kept) {
                 Err(Failure::Error { status: INPUT_OUTPUT, text }) => {
-                    return Ok(Trial::Untried(text));
+                    self.untried = Some(text);
+                    return Ok(());
                 }
                 copy => copy?,
             };
             let bytes = sheet::written(lines);
-            match counter::sheet(copy.bytes_mut(), &mut desk.lend(), &mut record, 0, &bytes) {
-                Ok(()) => last = Some(copy),
-                Err(Stopped { number, line: 1 }) if turn == 0 => {
-                    return refused(&lines[0], number, image, desk, disc).map(Trial::Refused);
-                }
-                Err(_) => return Err(otherwise(image)),
-            }
+            counter::sheet(copy.bytes_mut(), &mut desk.lend(), &mut record, 0, &bytes)
+                .map_err(|Stopped { number, line }| refused(image, before + line, number))?;
+            last = Some(copy);
         }
-        if let Some(copy) = last.filter(|_| self.clear_it() && lines.len() == self.count()) {
+        if let Some(copy) = last.filter(|_| self.frees_run() && lines.len() == self.count()) {
             let free = Space::read(&copy, desk)?.free;
             let has_run = |region: &Region| {
                 let region = span(region.offset, region.size);
@@ -190,26 +200,20 @@ impl<'a> Moves<'a> {
                 return Err(otherwise(image));
             }
         }
-        Ok(Trial::Accepted)
+        Ok(())
     }
 }
 
-/// The refusal of the first move, with what it is about.
-fn refused(
-    line: &Line,
-    number: u32,
-    image: &Image,
-    desk: &mut Desk,
-    disc: &Disc,
-) -> Outcome<Failure> {
-    let alone = sheet::written(slice::from_ref(line));
-    let wish = Wish::of_line(line.clone());
-    let call = Call::of_line(&wish, &alone, image, desk);
-    let turn = Turn { account: fresh(image, desk)?, team: 0 };
-    match try_out(&wish, &call, image, desk, disc, turn) {
-        Err(failure) if u32::from(failure.status()) == number => Ok(failure),
-        _ => Err(otherwise(image)),
-    }
+fn free(disc: &Disc) -> impl Iterator<Item = Range<u64>> {
+    disc.free.iter().map(|region| span(region.offset, region.size))
+}
+
+/// No move that is planned is refused.
+fn refused(image: &Image, line: u32, number: u32) -> Failure {
+    let (name, cause) = (&image.name, cause(number).unwrap_or_default());
+    let text =
+        format!("{name}: libcounter refuses move {line} of those planned: {number} ({cause})");
+    Failure::error(INTERNAL, text)
 }
 
 /// What the rules say of these moves, and what came of them.

@@ -339,9 +339,22 @@ pub fn file(name: impl AsRef<OsStr>) -> String {
     out
 }
 
-/// The same as a word of a command, as a shell takes it.
+/// The same as a word of a command, as a shell takes it: where something of it is escaped, as bash, zsh and
+/// ksh take it.
 pub fn word(name: impl AsRef<OsStr>) -> String {
-    String::from_utf8_lossy(&for_shell(file(name).as_bytes())).into_owned()
+    let (bytes, shown) = (name.as_ref().as_bytes(), file(&name));
+    if shown.as_bytes() == bytes {
+        return String::from_utf8_lossy(&for_shell(bytes)).into_owned();
+    }
+    let mut out = String::from("$'");
+    for byte in bytes {
+        match byte {
+            b'\'' | b'\\' => out.extend(['\\', *byte as char]),
+            b' '..=b'~' => out.push(*byte as char),
+            _ => escape(&mut out, &[*byte]),
+        }
+    }
+    out + "'"
 }
 
 /// A path of the image as a word of a command, as PATH is taken.

@@ -4,18 +4,24 @@
 use crate::disc::CLUSTER;
 use crate::way::{Blocking, meet, span};
 use std::cmp::Reverse;
+use std::collections::{BTreeMap, BTreeSet};
 use std::ops::Range;
 
-/// Free regions outside of a run, rising, none right behind another.
+/// Free regions outside of a run, none right behind another: where each starts and ends, and the same by
+/// their sizes.
 pub struct Rooms {
-    free: Vec<Range<u64>>,
+    free: BTreeMap<u64, u64>,
+    sizes: BTreeSet<(u64, u64)>,
     run: Range<u64>,
+    /// Where the table ends, and they begin.
+    start: u64,
 }
 
 impl Rooms {
     /// Those of these regions, from `start` on.
     pub fn new(free: impl Iterator<Item = Range<u64>>, run: &Range<u64>, start: u64) -> Rooms {
-        let mut rooms = Rooms { free: Vec::new(), run: run.clone() };
+        let run = run.clone();
+        let mut rooms = Rooms { free: BTreeMap::new(), sizes: BTreeSet::new(), run, start };
         for region in free {
             rooms.add(region.start.max(start)..region.end.max(start));
         }
@@ -24,37 +30,59 @@ impl Rooms {
 
     /// The size of the largest, 0 if there is none.
     pub fn largest(&self) -> u64 {
-        self.free.iter().map(|room| room.end - room.start).max().unwrap_or(0)
+        self.sizes.last().map_or(0, |(size, _)| *size)
+    }
+
+    /// Where the free bytes end that lie behind the run; its own end if there are none.
+    pub fn end(&self) -> u64 {
+        self.free.get(&self.run.end).copied().unwrap_or(self.run.end)
+    }
+
+    fn put(&mut self, room: Range<u64>) {
+        if !room.is_empty() {
+            self.free.insert(room.start, room.end);
+            self.sizes.insert((room.end - room.start, room.start));
+        }
+    }
+
+    fn remove(&mut self, start: u64) -> Option<u64> {
+        let end = self.free.remove(&start)?;
+        self.sizes.remove(&(end - start, start));
+        Some(end)
     }
 
     /// What of these bytes lies outside of the run is free from here on.
     fn add(&mut self, bytes: Range<u64>) {
         let apart =
             [bytes.start..bytes.end.min(self.run.start), bytes.start.max(self.run.end)..bytes.end];
-        for part in apart.into_iter().filter(|part| !part.is_empty()) {
-            let at = self.free.partition_point(|room| room.start < part.start);
-            self.free.insert(at, part);
-            // With the one behind it, then with the one before it.
-            for at in [Some(at), at.checked_sub(1)].into_iter().flatten() {
-                if at + 1 < self.free.len() && self.free[at].end == self.free[at + 1].start {
-                    self.free[at].end = self.free.remove(at + 1).end;
-                }
+        for mut part in apart.into_iter().filter(|part| !part.is_empty()) {
+            let before = self.free.range(..part.start).next_back();
+            if let Some((&start, _)) = before.filter(|(_, end)| **end == part.start) {
+                self.remove(start);
+                part.start = start;
             }
+            part.end = self.remove(part.end).unwrap_or(part.end);
+            self.put(part);
         }
     }
 
     /// A place for so many bytes on a multiple of `align`, which is used from here on: the first one in the
-    /// smallest region that has one.
+    /// smallest region that has one, but last in that right behind the table, where further entries need
+    /// room.
     fn take(&mut self, size: u64, align: u64) -> Option<u32> {
-        let place = |room: &Range<u64>| {
-            let at = room.start.next_multiple_of(align);
-            (at + size <= room.end).then_some(at)
+        let sizes = self.sizes.range((size, 0)..);
+        let mut fits = sizes.filter_map(|&(bytes, start)| {
+            let at = start.next_multiple_of(align);
+            (at + size <= start + bytes).then_some((start, at))
+        });
+        let first = fits.next()?;
+        let (start, at) = match first.0 == self.start {
+            true => fits.next().unwrap_or(first),
+            false => first,
         };
-        let fit = self.free.iter().enumerate().filter(|(_, room)| place(room).is_some());
-        let (found, room) = fit.min_by_key(|(_, room)| room.end - room.start)?;
-        let (room, at) = (room.clone(), place(room)?);
-        let rest = [room.start..at, at + size..room.end];
-        self.free.splice(found..=found, rest.into_iter().filter(|rest| !rest.is_empty()));
+        let end = self.remove(start)?;
+        self.put(start..at);
+        self.put(at + size..end);
         u32::try_from(at).ok()
     }
 }

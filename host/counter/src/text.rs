@@ -53,10 +53,10 @@ pub fn both(number: u32) -> String {
 }
 
 /// A number of bytes as 0x, in base ten, and in a unit.
-pub fn size(bytes: u64) -> String {
-    match bytes {
-        0..1024 => format!("{bytes:#x} ({bytes} bytes)"),
-        _ => format!("{bytes:#x} ({} bytes, {})", grouped(bytes), human(bytes)),
+pub fn size(number: u64) -> String {
+    match number {
+        0..1024 => format!("{number:#x} ({})", bytes(number)),
+        _ => format!("{number:#x} ({}, {})", bytes(number), human(number)),
     }
 }
 
@@ -68,6 +68,11 @@ pub fn section(i: usize) -> String {
 /// `one` or `many` after the number.
 pub fn counted(number: usize, one: &str, many: &str) -> String {
     format!("{} {}", grouped(number as u64), if number == 1 { one } else { many })
+}
+
+/// So many bytes.
+pub fn bytes(number: u64) -> String {
+    counted(number as usize, "byte", "bytes")
 }
 
 /// A number as the command line takes it: its digits, their base, and by how many bits K, M or G shifts it.
@@ -94,11 +99,21 @@ pub fn is_number(text: &[u8]) -> bool {
 
 /// A number as the command line takes it: base ten or 0x, then K, M or G for 2^10, 2^20, 2^30.
 pub fn number(text: &[u8]) -> Result<u32, String> {
+    parsed(text, ", the largest offset and size")
+}
+
+/// The same for one that is neither an offset nor a size.
+pub fn count(text: &[u8]) -> Result<u32, String> {
+    parsed(text, "")
+}
+
+/// The same, with what the largest number is.
+fn parsed(text: &[u8], what: &str) -> Result<u32, String> {
     let shown = start_of(text);
     let (digits, base, shift) = parts(text).ok_or_else(|| {
         format!("{shown}: a number is wanted, in base ten or with 0x, with K, M or G")
     })?;
-    let large = || format!("{shown}: above 2^32 - 1 (4,294,967,295), the largest offset and size");
+    let large = || format!("{shown}: above 2^32 - 1 (4,294,967,295){what}");
     let value = u64::from_str_radix(digits, base).map_err(|_| large())?;
     let value = value.checked_mul(1 << shift).ok_or_else(large)?;
     u32::try_from(value).map_err(|_| large())

@@ -6,7 +6,7 @@ use crate::failure::{Failure, INTERNAL, Measures, Outcome};
 use crate::image::{Desk, Image};
 use crate::json::Json;
 use crate::program::Program;
-use crate::text::{counted, grouped};
+use crate::text::{bytes, counted, grouped};
 use counter_sys::{self as counter, CheapestRun};
 use std::ops::Range;
 
@@ -23,6 +23,8 @@ pub struct Way<'a> {
     pub run: CheapestRun,
     /// Whether every candidate was.
     pub all_tried: bool,
+    /// How long a run can be.
+    pub longest: u64,
     /// The files that have a byte of it, as they lie.
     pub files: Vec<Blocking<'a>>,
 }
@@ -62,7 +64,7 @@ impl Wish {
         let program = Program::read(image, desk, &disc.opened)?.filter(|program| program.behind);
         let program = program.map_or(0..0, |at| span(at.place.offset, at.place.size));
         let mut clear = |budget| {
-            let found = counter::clear(image.bytes(), &mut desk.lend(), self.size, budget);
+            let found = self.cheapest(image, desk, budget);
             found.map_err(|number| self.refused(number, disc, &program))
         };
         let budget = self.budget.unwrap_or(u32::MAX);
@@ -73,9 +75,35 @@ impl Wish {
             None => None,
         };
         let all_tried = more.is_none_or(|more| more.tried == run.tried);
-        let way = Way { size: self.size, run, all_tried, files: blocking(disc, &self.span(&run)) };
+        let longest = longest(disc, &program).0;
+        let files = blocking(disc, &self.span(&run));
+        let way = Way { size: self.size, run, all_tried, longest, files };
         way.holds_together(image, disc, &program)?;
         Ok(Some(way))
+    }
+
+    /// The cheapest of so many candidates, if that are some.
+    pub fn cheapest(
+        &self,
+        image: &Image,
+        desk: &mut Desk,
+        budget: u32,
+    ) -> Result<Option<CheapestRun>, u32> {
+        counter::clear(image.bytes(), &mut desk.lend(), self.size, budget)
+    }
+
+    /// The most candidates, from the first on, of which another run is the cheapest. It costs more, unless
+    /// there are none.
+    pub fn before(&self, image: &Image, desk: &mut Desk, run: &CheapestRun) -> Result<u32, u32> {
+        let (mut before, mut with) = (0, run.tried);
+        while with - before > 1 {
+            let budget = before + (with - before) / 2;
+            match self.cheapest(image, desk, budget)? {
+                Some(found) if found.offset == run.offset => with = budget,
+                _ => before = budget,
+            }
+        }
+        Ok(before)
     }
 
     fn span(&self, run: &CheapestRun) -> Range<u64> {
@@ -84,35 +112,36 @@ impl Wish {
 
     /// The refusal, with how long a run can be.
     fn refused(&self, number: u32, disc: &Disc, program: &Range<u64>) -> Failure {
-        let what = counted(self.size as usize, "byte", "bytes");
+        let what = bytes(self.size.into());
         let failure = Failure::refused(number, format!("a run of {what}"));
         if number != 21 {
             return failure;
         }
-        let mut marks = vec![(table_end(&disc.opened), "the table's end")];
-        if !program.is_empty() {
-            let Range { start, end } = *program;
-            marks.extend([(start, "the program's start"), (end, "the program's end")]);
-        }
-        marks.push((disc.opened.disc_end.into(), "the disc end"));
-        let stretches = marks.chunks(2).map(|pair| (pair[1].0.saturating_sub(pair[0].0), pair));
-        // Of equal ones the first.
-        let longest = stretches.rev().max_by_key(|(long, _)| *long);
-        let (most, words) = match longest {
-            Some((most @ 1.., [(from, start), (to, stop)])) => {
-                let bytes = grouped(most);
-                (
-                    most,
-                    format!("the longest has {bytes}, from {start}, {from:#x}, to {stop}, {to:#x}"),
-                )
-            }
-            _ => (0, "between the table's end and the disc end there is room for none".into()),
-        };
+        let (most, words) = longest(disc, program);
         let words = match self.size {
             0 => format!("a run has at least 1 byte; {words}"),
             _ => words,
         };
         failure.because(words).measured(Measures::Most(most))
+    }
+}
+
+/// How long a run can be, and where it lies then.
+fn longest(disc: &Disc, program: &Range<u64>) -> (u64, String) {
+    let mut marks = vec![(table_end(&disc.opened), "the table's end")];
+    if !program.is_empty() {
+        let Range { start, end } = *program;
+        marks.extend([(start, "the program's start"), (end, "the program's end")]);
+    }
+    marks.push((disc.opened.disc_end.into(), "the disc end"));
+    let stretches = marks.chunks(2).map(|pair| (pair[1].0.saturating_sub(pair[0].0), pair));
+    // Of equal ones the first.
+    match stretches.rev().max_by_key(|(long, _)| *long) {
+        Some((most @ 1.., [(from, start), (to, stop)])) => {
+            let bytes = grouped(most);
+            (most, format!("the longest has {bytes}, from {start}, {from:#x}, to {stop}, {to:#x}"))
+        }
+        _ => (0, "between the table's end and the disc end there is room for none".into()),
     }
 }
 
@@ -171,13 +200,10 @@ impl Way<'_> {
     pub fn words(&self) -> String {
         let Range { start, end } = self.span();
         let files = counted(self.files.len(), "file", "files");
-        let cost = counted(self.run.cost as usize, "byte", "bytes");
-        let size = grouped(self.size.into());
+        let [cost, size] = [self.run.cost, self.size].map(|number| bytes(number.into()));
         match self.run.cost {
-            0 => format!("a free run of {size} bytes: {start:#x} to {end:#x}"),
-            _ => format!(
-                "a run of {size} bytes: {start:#x} to {end:#x}, {files} of {cost} in its way"
-            ),
+            0 => format!("a free run of {size}: {start:#x} to {end:#x}"),
+            _ => format!("a run of {size}: {start:#x} to {end:#x}, {files} of {cost} in its way"),
         }
     }
 }

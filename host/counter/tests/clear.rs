@@ -220,10 +220,11 @@ fn the_small_master_in_words() {
              cheaper           another run may be, by 0x100 (256 bytes) at most\n\
              \x20   offset        size          bytes     goes to  path\n\
              0x00000500  0x00000100            256  0x00000600  /a\n\
+             note: what goes to 0x45c lies right behind the table: no entry can be added while it is there\n\
              1 move; tried on a private copy and accepted:\n\
              counter move small.iso /a 0x600\n\
-             then a new file (added, empty, before this was asked) goes there by\n\
-             counter move small.iso PATH 0x45a\n\
+             then a new file of at most 420 bytes (added, empty, before this was asked) goes there by\n\
+             counter move small.iso PATH 0x45c\n\
              counter fill small.iso PATH CLIP\n",
         ),
         (
@@ -235,7 +236,7 @@ fn the_small_master_in_words() {
              tried             2 candidates, all that there are\n\
              cost              0: the run is free\n\
              cheaper           no run is\n\
-             then a new file (added, empty, before this was asked) goes there by\n\
+             then a new file of at most 6,656 bytes (added, empty, before this was asked) goes there by\n\
              counter move small.iso PATH 0x600\n\
              counter fill small.iso PATH CLIP\n",
         ),
@@ -252,7 +253,10 @@ fn the_small_master_in_words() {
              \x20   offset        size          bytes     goes to  path\n\
              0x00000500  0x00000100            256        none  /a\n\
              no place is left for 1 file of 256 bytes; the largest free region that is left outside of the run \
-             has 0 bytes\n",
+             has 0 bytes\n\
+             note: SIZE is 256 bytes more than all that is free: files have to be made smaller by as much, no move \
+             does it\n\
+             no move frees the run: 1 file stays in it\n",
         ),
         (
             &["5389", "--budget", "0"],
@@ -310,8 +314,11 @@ fn the_small_master_in_json() {
   "accepted": 1,
   "refusal": null,
   "untried": null,
+  "clears": true,
+  "place": 1116,
+  "room": 420,
   "out": null,
-  "notes": []
+  "notes": ["what goes to 0x45c lies right behind the table: no entry can be added while it is there"]
 }}
 "#
     );
@@ -338,6 +345,9 @@ fn the_small_master_in_json() {
   "accepted": 0,
   "refusal": null,
   "untried": null,
+  "clears": false,
+  "place": null,
+  "room": null,
   "out": null,
   "notes": []
 }}
@@ -384,11 +394,10 @@ fn the_numbers_of_the_small_master() {
     // Behind the run are 1,689 bytes, none of them a multiple of 0x800.
     let told = json("clear", &image, &["5389"]);
     assert_eq!(told.at("files").list()[0].at("to").number(), 6504);
-    let notes: Vec<&str> = told.at("notes").list().iter().map(Json::text).collect();
     let note = "/a lies on a multiple of 0x800, and 0x1968 is none: no place on one is left";
-    assert_eq!(notes, [note]);
+    assert_eq!(notes(&told)[0], note);
     let text = done("clear", &image, &["5389"]);
-    assert!(text.contains(&format!("\nnote: {note}\n1 move; ")), "{text}");
+    assert!(text.contains(&format!("\nnote: {note}\nnote: from 0x45c on, ")), "{text}");
     cleared(&temp, &image, &told, &["5389"]);
 }
 
@@ -595,6 +604,10 @@ fn moves(told: &Json) -> Vec<(&str, u64)> {
     moves.map(|step| (step.at("path").text(), step.at("offset").number())).collect()
 }
 
+fn notes(told: &Json) -> Vec<&str> {
+    told.at("notes").list().iter().map(Json::text).collect()
+}
+
 #[test]
 fn what_a_moved_file_leaves_is_used() {
     let temp = Temp::new();
@@ -621,13 +634,174 @@ fn the_smallest_room_on_the_files_own_multiple_is_taken() {
         let image = temp.write("f.iso", &small_disc(&entries(end), 0x6000));
         let told = asked(&image, 0xB7D, Some(1)).unwrap();
         assert_eq!(moves(&told), [("/f", to)], "{end:#x}");
-        assert!(told.at("notes").list().is_empty());
+        assert!(!notes(&told)[0].contains("lies on a multiple"));
     }
     // Without a room there on a multiple of 4, the first one of the smallest.
     let image = temp.write("f.iso", &small_disc(&entries(0x30FF), 0x4080));
     let told = asked(&image, 0xB7D, Some(1)).unwrap();
     assert_eq!(moves(&told), [("/f", 0x1A10)]);
-    assert_eq!(told.at("notes").list().len(), 1);
+    assert!(notes(&told)[0].contains("lies on a multiple"));
+}
+
+/// Where the new file goes, how many bytes it may have there, and what is noted of it.
+#[test]
+fn the_new_files_place() {
+    let temp = Temp::new();
+    // `a` takes all from the table on up to 0x10001, `b` what lies behind the room.
+    let disc = |room: u32| {
+        let (a, end) = (0x1_0001 - 0x468, 0x1_0001 + room);
+        let files = [file("a", 0x468, a), file("b", end, 0x4_0000 - end)];
+        temp.write("place.iso", &small_disc(&files, 0x4_0000))
+    };
+    let told = |room: u32, size: &str| {
+        let told = json("clear", &disc(room), &[size]);
+        assert_eq!((told.at("offset").number(), told.at("clears").flag()), (0x1_0001, true));
+        let notes = notes(&told).into_iter().map(String::from).collect::<Vec<_>>();
+        (told.at("place").number(), told.at("room").number(), notes)
+    };
+    // From 0x18000 on 0x8001 bytes are free, or 0x8000, or one fewer.
+    assert_eq!(told(0x1_0000, "0x8000"), (0x1_8000, 0x8001, vec![]));
+    assert_eq!(told(0xFFFF, "0x8000"), (0x1_8000, 0x8000, vec![]));
+    let note = "0x10004 is no multiple of 0x8000: a file of at most 32,767 bytes can go to 0x18000 in its place; \
+                for one of 32,768 bytes ask for 65,535 bytes, 0x7fff more";
+    assert_eq!(told(0xFFFE, "0x8000"), (0x1_0004, 0xFFFB, vec![note.into()]));
+    let text = done("clear", &disc(0xFFFE), &["0x8000"]);
+    assert!(
+        text.contains("\naligned           0x18000 (98,304), with 32,767 bytes from there on\n")
+    );
+    assert!(text.contains("\nthen a new file of at most 65,531 bytes (added, "), "{text}");
+    assert!(text.contains(&format!(" PATH {:#x}\n", 0x1_0004)), "{text}");
+    // From the first multiple of 4 on there are fewer bytes than were asked for, though SIZE are free.
+    let notes = |only: &str, fewer: u32, size: u32| {
+        let (ask, larger) = (size + 3, grouped(u64::from(size) + 0x7FFF));
+        vec![
+            format!(
+                "from 0x10004 on, the first multiple of 4, there is room for only {only}, {fewer} fewer than SIZE: ask for {ask}"
+            ),
+            format!(
+                "0x10004 is no multiple of 0x8000: for one of {size} bytes ask for {larger} bytes, 0x7fff more"
+            ),
+        ]
+    };
+    assert_eq!(told(31, "31"), (0x1_0004, 28, notes("28 bytes", 3, 31)));
+    assert_eq!(told(31, "29"), (0x1_0004, 28, notes("28 bytes", 1, 29)));
+    assert_eq!(told(31, "28").2.len(), 1);
+    assert_eq!(told(4, "4"), (0x1_0004, 1, notes("1 byte", 3, 4)));
+    // From 0x45a, the table's end, to the disc end are 2,982 bytes, of which 2,980 from 0x45c on.
+    let image = temp.write("all.iso", &small_disc(&[file("y", 0, 0)], 0x1000));
+    let all = json("clear", &image, &["2982"]);
+    assert_eq!((all.at("place").number(), all.at("room").number()), (0x45C, 2980));
+    let note = "from 0x45c on, the first multiple of 4, there is room for only 2,980 bytes, 2 fewer than SIZE; no \
+                run is 3 bytes longer";
+    assert_eq!(self::notes(&all)[0], note);
+    // No multiple of 4 is in it.
+    let note =
+        "0x10001 is no multiple of 0x8000: for one of 3 bytes ask for 32,770 bytes, 0x7fff more";
+    assert_eq!(told(3, "3"), (0x1_0001, 3, vec![note.into()]));
+    assert!(done("clear", &disc(1), &["1"]).contains("\nsize              0x1 (1 byte)\n"));
+}
+
+#[test]
+fn what_lies_right_behind_the_table_is_told() {
+    let temp = Temp::new();
+    let words = |at: u32| {
+        format!(
+            "what goes to {at:#x} lies right behind the table: no entry can be added while it is there"
+        )
+    };
+    // The table ends at 0x45a, where `y` begins: an entry takes 14 bytes at least.
+    for (size, place, is_told) in [(10, 0x464, true), (14, 0x468, false)] {
+        let entries = [file("y", 0x45A, size)];
+        let image = temp.write("near.iso", &small_disc(&entries, 0x1000));
+        let told = json("clear", &image, &["0x100"]);
+        assert_eq!(told.at("place").number(), place.into());
+        let wanted = if is_told { vec![words(place)] } else { vec![] };
+        assert_eq!(notes(&told), wanted);
+    }
+    // It ends at 0x468, and the one room for `x` is there.
+    let entries = [file("x", 0x500, 0x40), file("y", 0x4A8, 0x58)];
+    let image = temp.write("near.iso", &small_disc(&entries, 0x1000));
+    let told = asked(&image, 0xAC1, None).unwrap();
+    assert_eq!(moves(&told), [("/x", 0x468)]);
+    assert!(notes(&told).contains(&words(0x468).as_str()));
+    done("move", &image, &["x", "0x468"]);
+    assert_eq!(on("add", &image, &["z"]).status, 21);
+}
+
+#[test]
+fn files_go_right_behind_the_table_last() {
+    let temp = Temp::new();
+    // The table ends at 0x476, and 0x40 bytes are free there, the fewest that hold `x`; of a run of 0x140,
+    // which starts behind `y`, it goes behind `z`, as long as there is room.
+    for (end, to) in [(0xE80, 0xE00), (0xE10, 0xE00), (0xE0F, 0x478)] {
+        let entries = [file("y", 0x4B6, 0x400), file("x", 0x904, 0x10), file("z", 0xA00, 0x400)];
+        let image = temp.write("last.iso", &small_disc(&entries, end));
+        let told = asked(&image, 0x140, None).unwrap();
+        assert_eq!((told.at("offset").number(), moves(&told)), (0x8B6, vec![("/x", to)]));
+        let is_behind = notes(&told).iter().any(|note| note.contains("right behind the table"));
+        assert_eq!(is_behind, to == 0x478);
+        cleared(&temp, &image, &told, &["0x140"]);
+    }
+}
+
+/// Of two runs of 0x200 bytes the cheaper one has `b` of 0x150 in its way, for which there is no place, the
+/// other one `p` and `q` of 0xb0 each. The table ends at 0x4a0.
+#[test]
+fn another_run_whose_files_find_places() {
+    let temp = Temp::new();
+    let told = |entries: [Wish; 6], end: u32, offset: u64, ask: &str| -> Json {
+        let image = temp.write("other.iso", &small_disc(&entries, end));
+        let told = asked(&image, 0x200, None).unwrap();
+        let found = ["offset", "cost", "no_place"].map(|name| told.at(name).number());
+        assert_eq!(found, [offset, 0x150, 1]);
+        assert!(!told.at("clears").flag());
+        if ask.is_empty() {
+            assert_eq!(
+                notes(&told),
+                ["another run, which costs more, may do; a larger SIZE may show one"]
+            );
+            return told;
+        }
+        let note = format!("with {ask} every file finds a place: that run, at ");
+        assert!(notes(&told)[0].starts_with(&note), "{told:?}");
+        assert!(notes(&told)[0].ends_with(", costs 352 bytes"), "{told:?}");
+        let words: Vec<&str> = ask.split(' ').collect();
+        let (size, budget) = match words[..] {
+            ["--budget", most] => ("0x200", Some(most)),
+            _ => (words[3], None),
+        };
+        let rest = budget.map_or(vec![size], |most| vec![size, "--budget", most]);
+        let other = json("clear", &image, &rest);
+        assert!(other.at("clears").flag());
+        cleared(&temp, &image, &other, &rest);
+        other
+    };
+    let far = [
+        file("w", 0x550, 0x400),
+        file("p", 0x9F0, 0xB0),
+        file("q", 0xAA0, 0xB0),
+        file("v", 0xB50, 0x400),
+        file("b", 0x1000, 0x150),
+        file("u", 0x1150, 0x400),
+    ];
+    let other = told(far, 0x1600, 0xF50, "--budget 4");
+    assert_eq!((other.at("offset").number(), other.at("cost").number()), (0x950, 0x160));
+    let near = |u: u32| {
+        [
+            file("w", 0x550, 0x400),
+            file("b", 0xA00, 0x150),
+            file("v", 0xB50, 0x400),
+            file("p", 0x1020, 0xB0),
+            file("q", 0x10D0, 0xB0),
+            file("u", 0x1180, u),
+        ]
+    };
+    let other = told(near(0x400), 0x1630, 0x950, "a SIZE of 516");
+    assert_eq!((other.at("offset").number(), other.at("cost").number()), (0xF50, 0x160));
+    // Without the room behind `w` there is none for both.
+    let mut entries = near(0x420);
+    entries[0] = file("w", 0x4A0, 0x4B0);
+    told(entries, 0x1630, 0x950, "");
 }
 
 // What stands in the way of moves ---------------------------------------------------------
@@ -650,33 +824,38 @@ fn a_refused_move_is_told_with_its_cause() {
     let mut bytes = in_the_midst();
     let image = temp.write("free.iso", &bytes);
     let free = json("clear", &image, &MIDST);
+    assert_eq!((moves(&free), free.at("clears").flag()), (vec![("/a", 0x1600)], true));
     put(&mut bytes, 0x42C, 25);
     let image = temp.write("small.iso", &bytes);
     let before = State::of(&image);
     let told = asked(&image, 0x1000, Some(1)).unwrap();
-    assert_eq!(moves(&told), [("/a", 0x1600)]);
-    assert_eq!(moves(&told), moves(&free));
-    assert_eq!(told.at("accepted").number(), 0);
+    assert!(moves(&told).is_empty() && !told.at("clears").flag());
+    assert_eq!((told.at("no_place"), told.at("place")), (&Json::Null, &Json::Null));
+    assert_eq!(told.at("files").list()[0].at("detail").text(), "no place was looked for");
     let refusal = told.at("refusal");
     assert_eq!(refusal.at("number").number(), 26);
     assert_eq!(refusal.at("cause").text(), "new table above the maximum");
     assert!(refusal.at("detail").text().contains("1 above the maximum of 25"), "{refusal:?}");
+    let why = format!(
+        "no moves are told: a rewrite, and every edit that writes the table, is refused 26 (new table above the \
+         maximum): {}",
+        refusal.at("detail").text()
+    );
+    assert_eq!(notes(&told), [&why]);
     let text = done("clear", &image, &MIDST);
-    let words = "\n1 move; none can be made as the image is now: move /a to 0x1600: refused 26: new table above the \
-                 maximum (the new table has 26 bytes, 1 above";
-    assert!(text.contains(words), "{text}");
-    let command = format!("counter move {} /a 0x1600\n", image.display());
-    assert!(text.ends_with(&command), "{text}");
-    assert_eq!(State::of(&image), before);
+    assert!(text.ends_with(&format!("           -  /a\nnote: {why}\n")), "{text}");
     refused(&image, &["move", "a", "0x1600"], 26);
-    // The sheet is there for when the publisher allows more.
     let sheet = temp.at("moves.sheet");
-    let sheet = sheet.to_str().unwrap();
-    done("clear", &image, &[&MIDST[..], &["--sheet", sheet]].concat());
-    assert_eq!(on("sheet", &image, &[sheet]).status, 26);
+    let run = on("clear", &image, &[&MIDST[..], &["--sheet", sheet.to_str().unwrap()]].concat());
+    assert_eq!((run.status, run.err), (65, format!("counter: {}: {why}\n", image.display())));
+    assert!(!sheet.exists());
+    // A run that is free: no file can go there either.
+    let text = done("clear", &image, &["1"]);
+    assert!(text.ends_with(&format!("\nnote: {why}\n")), "{text}");
+    assert_eq!(State::of(&image), before);
     done("maximum", &image, &["26"]);
-    assert_eq!(on("sheet", &image, &[sheet]).status, 0);
-    assert!(is_free(&image, &told));
+    assert_eq!(moves(&json("clear", &image, &MIDST)), moves(&free));
+    cleared(&temp, &image, &free, &MIDST);
 }
 
 /// A folder and a file in it share one name text, so that a table that is written anew has two bytes more.
@@ -704,8 +883,8 @@ fn a_table_that_would_grow_into_the_run_comes_first() {
     let to: Vec<&Json> = told.at("files").list().iter().map(|file| file.at("to")).collect();
     assert_eq!(to, [&Json::Null; 2]);
     let why = format!(
-        "the next edit writes the table anew, and then it ends at 0x476, in this run: no moves are told; give \
-         `counter rewrite {name}`, or add the new file, and ask again"
+        "no moves are told: the next edit writes the table anew, and then it ends at 0x476, behind the run's start; \
+         give `counter rewrite {name}`, and ask again"
     );
     assert_eq!(told.at("notes").list()[0].text(), why);
     let text = done("clear", &image, &MIDST);
@@ -717,9 +896,12 @@ fn a_table_that_would_grow_into_the_run_comes_first() {
     // A run behind that is no matter; one that is free, is.
     let told = json("clear", &image, &["0x900", "--budget", "2"]);
     assert_eq!(told.at("offset").number(), 0x640);
-    assert_eq!((told.at("table_in_run"), told.at("notes").list().len()), (&Json::Null, 0));
-    let told = json("clear", &image, &["0x10"]);
-    assert_eq!((told.at("cost").number(), told.at("table_in_run").number()), (0, 0x476));
+    assert_eq!((told.at("table_in_run"), told.at("clears").flag()), (&Json::Null, true));
+    for size in ["0x10", "1"] {
+        let told = json("clear", &image, &[size]);
+        assert_eq!((told.at("cost").number(), told.at("table_in_run").number()), (0, 0x476));
+        assert!(!told.at("clears").flag());
+    }
     // Then all is as it is told.
     done("rewrite", &image, &[]);
     let told = asked(&image, 0x1000, Some(1)).unwrap();
@@ -729,9 +911,15 @@ fn a_table_that_would_grow_into_the_run_comes_first() {
     // Where the table has no room to grow, no edit can write it.
     let image = temp.write("stuck.iso", &shared(0x474));
     let told = json("clear", &image, &["0x1000", "--budget", "2"]);
-    assert_eq!(told.at("offset").number(), 0x4B4);
+    assert_eq!((told.at("offset").number(), moves(&told).len()), (0x4B4, 0));
     assert_eq!((told.at("refusal").at("number").number(), told.at("accepted").number()), (21, 0));
+    let why = told.at("refusal").at("detail").text();
+    assert_eq!(why, json("check", &image, &[]).at("rewrite_detail").text());
     assert_eq!(on("move", &image, &["x/x", "0x1f00"]).status, 21);
+    // A run before that file would be in the table's way: it is the refusal that is told.
+    let told = json("clear", &image, &["0x30", "--budget", "1"]);
+    assert_eq!((told.at("offset").number(), told.at("table_in_run")), (0x474, &Json::Null));
+    assert_eq!(told.at("refusal").at("detail").text(), why);
 }
 
 #[test]
@@ -750,19 +938,42 @@ fn files_that_no_command_reaches_stay() {
     let details = |told: &Json| -> Vec<Json> {
         told.at("files").list().iter().map(|file| file.at("detail").clone()).collect()
     };
-    let hidden = Json::Text("its path leads to another entry".into());
+    let hidden = Json::Text("its path does not lead to it".into());
     assert_eq!(details(&told), [Json::Null, hidden.clone(), hidden]);
     assert_eq!((told.at("no_place").number(), moves(&told).len()), (2, 1));
     let text = done("clear", &image, &run);
     let words =
-        "\nno command moves 2 files of 1,280 bytes together: its path leads to another entry\n";
+        "\nno command moves 2 files of 1,280 bytes together: their paths do not lead to them\n";
     assert!(text.contains(words), "{text}");
+    let words = "these moves do not free the run: 2 files stay in it";
     let command = format!("counter move {} /x {:#x}\n", image.display(), moves(&told)[0].1);
-    assert!(text.ends_with(&command), "{text}");
+    assert!(text.ends_with(&format!("{command}{words}\n")), "{text}");
+    assert_eq!((told.at("clears").flag(), told.at("place")), (false, &Json::Null));
+    assert_eq!(notes(&told), ["another run, which costs more, may do; a larger SIZE may show one"]);
+    let sheet = temp.at("moves.sheet");
+    let no_sheet = on("clear", &image, &[&run[..], &["--sheet", sheet.to_str().unwrap()]].concat());
+    let words = format!("counter: {}: {words}\n", image.display());
+    assert_eq!((no_sheet.status, no_sheet.err, sheet.exists()), (65, words, false));
+    // Where another run has files in it that commands reach, that one is told, be there a move or none.
+    let entries = [
+        file("x", 0x600, 0x18),
+        file("x", 0x900, 0x20),
+        file("y", 0x1000, 0x22),
+        file("z", 0x1400, 0x400),
+    ];
+    let image = temp.write("hidden.iso", &small_disc(&entries, 0x2000));
+    let told = asked(&image, 0x900, None).unwrap();
+    let found = ["offset", "cost", "no_place"].map(|name| told.at(name).number());
+    assert_eq!(found, [0x618, 0x20, 1]);
+    let note = "with a SIZE of 2574 every file finds a place: that run, at 0x920, costs 34 bytes";
+    assert_eq!(notes(&told)[0], note);
+    assert!(json("clear", &image, &["2574"]).at("clears").flag());
+    let text = done("clear", &image, &["0x900"]);
+    assert!(text.ends_with("\nno move frees the run: 1 file stays in it\n"), "{text}");
     // Four folders with names of 250 bytes: with a name of 21 a path has 1,026, with one of 20 it has 1,025,
     // and is taken without its first `/`.
     let image = temp.at("long.iso");
-    let name = "-".repeat(250);
+    let name = "-".repeat(249) + " ";
     let inner = vec![file("f".repeat(20), 0x6_0000, 0x100), file("f".repeat(21), 0x6_1000, 0x100)];
     let entries = (0..4).fold(inner, |inner, _| vec![folder(&name, inner)]);
     sparse(&image, &entries, 0x18_0000);
@@ -772,9 +983,9 @@ fn files_that_no_command_reaches_stay() {
     let text = done("clear", &image, &run);
     let words = "\nno command moves 1 file of 256 bytes: a path has at most 1,024 bytes\n";
     assert!(text.contains(words), "{text}");
-    // It begins with a `-`.
-    let line = text.lines().last().unwrap();
-    assert!(line.starts_with(&format!("counter move -- {} ----", image.display())), "{line}");
+    // It begins with a `-`, behind a quote.
+    let line = text.lines().rfind(|line| line.starts_with("counter")).unwrap();
+    assert!(line.starts_with(&format!("counter move -- {} '----", image.display())), "{line}");
     assert_eq!(in_shell(&temp, line.as_bytes()).status, 0);
     assert_eq!(json("clear", &image, &run).at("files").list().len(), 1);
 }
@@ -814,6 +1025,40 @@ fn names_of_any_kind_pass_through_a_shell() {
         assert_eq!((told.at("cost").number(), told.at("files").list().len()), (0, 0));
         assert_eq!(rest == ["--bytes"], asked.bytes.windows(4).any(|bytes| bytes == b"\x95\x5c.b"));
     }
+}
+
+#[test]
+fn sheets_of_any_name_pass_through_a_shell() {
+    let temp = Temp::new();
+    for sheet in ["-a b", "-a", "it's", "--"] {
+        let image = temp.write("small.iso", &filled_master());
+        let mut command = program();
+        command.args(["clear", "small.iso", "167", "--budget", "1", &format!("--sheet={sheet}")]);
+        let asked: Run = command.current_dir(temp.at("")).output().unwrap().into();
+        assert_eq!((asked.status, asked.err.as_str()), (0, ""));
+        let line = asked.out.lines().find(|line| line.starts_with("counter ")).unwrap();
+        let run = in_shell(&temp, line.as_bytes());
+        assert_eq!(run.status, 0, "{line}: {}", run.err);
+        assert_eq!(json("find", &image, &["a"]).at("offset").number(), 0x600);
+    }
+}
+
+#[test]
+fn an_image_whose_name_is_escaped() {
+    let temp = Temp::new();
+    let name = OsStr::from_bytes(b"a\n'b\\\xff.iso");
+    fs::write(temp.at("").join(name), filled_master()).unwrap();
+    let mut command = program();
+    command.args(["clear", "--budget", "1"]).arg(name).arg("167");
+    let asked: Run = command.current_dir(temp.at("")).output().unwrap().into();
+    let line = r"counter move $'a\x0a\'b\\\xff.iso' /a 0x600";
+    assert_eq!(asked.out.lines().find(|line| line.starts_with("counter ")), Some(line));
+    let run = in_shell(&temp, format!("exec bash -c {}", quoted(line)).as_bytes());
+    assert_eq!(run.status, 0, "{}", run.err);
+}
+
+fn quoted(line: &str) -> String {
+    format!("'{}'", line.replace('\'', r"'\''"))
 }
 
 fn in_shell(temp: &Temp, line: &[u8]) -> Run {
@@ -872,6 +1117,7 @@ fn what_cannot_be_asked() {
         (&["4G"], 64, "above 2^32 - 1"),
         (&["1", "--budget", "x"], 64, "a number is wanted"),
         (&["1", "--budget"], 64, "--budget wants a number of candidates"),
+        (&["1", "--budget", "4G"], 64, "4G: above 2^32 - 1 (4,294,967,295)\n"),
         (&["1", "--budget", "1", "--budget", "2"], 64, "--budget is given twice"),
         (&["1", "--sheet"], 64, "--sheet wants the name of a file"),
         (&["1", "--sheet", new, "--sheet", new], 64, "--sheet is given twice"),
@@ -879,6 +1125,8 @@ fn what_cannot_be_asked() {
         (&["167", "--budget", "1", "--sheet", there], 73, "is there already"),
         (&["167", "--budget", "1", "--sheet", image.to_str().unwrap()], 73, "is there already"),
         (&["7079", "--sheet", new], 21, "refused 21: no space"),
+        (&["1", "--sheet", new], 65, "the run is free, so there are no moves\n"),
+        (&["7078", "--sheet", new], 65, "no move frees the run: 1 file stays in it\n"),
     ] {
         let run = on("clear", &image, rest);
         assert_eq!((run.status, run.out.as_str()), (status, ""), "{rest:?}: {}", run.err);
@@ -887,13 +1135,6 @@ fn what_cannot_be_asked() {
     assert_eq!(fs::read(there).unwrap(), b"keep me");
     assert!(!Path::new(new).exists());
     assert_eq!(State::of(&image), before);
-    // A run that is free has a sheet without lines.
-    let text = done("clear", &image, &["1", "--sheet", new]);
-    assert!(text.contains(&format!("\nmade {new}: 0 lines, 16 bytes\n")), "{text}");
-    assert_eq!(
-        done("sheet", &image, &[new]).lines().last(),
-        Some("done: 0 lines, there was nothing to write")
-    );
     // Whatever does not open is refused as elsewhere.
     let mut short = small_master();
     short.truncate(0x1FFF);

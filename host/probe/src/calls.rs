@@ -564,7 +564,8 @@ impl Lender {
         })
     }
 
-    /// How many runs were tried, where the cheapest of them starts, its cost and the bound; none where none was tried.
+    /// How many runs were tried, where the cheapest of them starts, its cost and the bound; none where none
+    /// was tried.
     pub fn clear(&mut self, size: u32, budget: u32) -> Answer<Option<[u32; 4]>> {
         let found = self.look(|image, words, answer| unsafe {
             call!(counter_clear(in image, mut words, = size, = budget, = answer))

@@ -6,8 +6,8 @@
 //! - `lend_list N`: `ok`; from here on `free` and `clusters` lend a list of exactly N words (N of 64
 //!   bits), and `err 9` is a list that is too short. `lend_list -`, and so at the start: one that is
 //!   long enough, and it is held besides that the exact length does and a word less is 9;
-//! - `clear N BUDGET`: `ok TRIED OFFSET COST BOUND`: how many of the runs of N bytes were tried, where the cheapest of
-//!   them starts, what it costs and the bound; `ok none` where none was tried;
+//! - `clear N BUDGET`: `ok TRIED OFFSET COST BOUND`: how many of the runs of N bytes were tried, where the
+//!   cheapest of them starts, what it costs and the bound; `ok none` where none was tried;
 //! - `make_record LIMITS SHARES`: makes a record of the current image, which is in use from here on. Each of
 //!   the two: at most 16 numbers parted by commas, team 0 first, or `-`; teams that are not named get 0. Both,
 //!   or the second, may be left out. It answers as `record` does. Refused: what was in use, or none, stays;

@@ -1,8 +1,7 @@
-//! The probe on the small master: its listing, P1 to P12, every refusal number once,
-//! free regions in clusters, a program behind the table or before it, lists of edits, files filled
-//! from given bytes, records, teams, the stated table maximum, new masters, edits in three calls, edit sheets, runs to
-//! clear, and calls with too little memory or too short a list.
-//! `dirty` is never an answer.
+//! The probe on the small master: its listing, P1 to P12, every refusal number once, free regions in
+//! clusters, a program behind the table or before it, lists of edits, files filled from given bytes, records,
+//! teams, the stated table maximum, new masters, edits in three calls, edit sheets, runs to clear, and calls
+//! with too little memory or too short a list. `dirty` is never an answer.
 
 use std::io::{Read, Write};
 use std::process::{Command, Stdio};

@@ -45,8 +45,8 @@ pub struct Region {
     pub size: u32,
 }
 
-/// The cheapest of the runs that were tried: how many those were, where it starts, the sizes of the files that it
-/// touches, and what it costs more, at most, than any run.
+/// The cheapest of the runs that were tried: how many those were, where it starts, the sizes of the files
+/// that it touches, and what it costs more, at most, than any run.
 #[derive(Debug, Clone, Copy, PartialEq, Eq)]
 pub struct CheapestRun {
     pub tried: u32,
@@ -342,7 +342,8 @@ pub fn allocate(image: &[u8], memory: &mut Memory, size: u32, align: u32) -> Ans
     Ok(Region { offset: answer[0], size: answer[1] })
 }
 
-/// Where the least has to be moved away for `size` bytes in a row; none where no run was tried, for a budget of 0.
+/// Where the least has to be moved away for `size` bytes in a row; none where no run was tried, for a budget
+/// of 0.
 pub fn clear(
     image: &[u8],
     memory: &mut Memory,

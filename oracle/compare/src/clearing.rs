@@ -1,5 +1,5 @@
-//! Runs to clear: every answer of Counter is held to the starts that `clearing_rules` tries, and to what that answers. The
-//! original has no such call.
+//! Runs to clear: every answer of Counter is held to the starts that `clearing_rules` tries, and to what that
+//! answers. The original has no such call.
 
 use crate::calls::any_number;
 use crate::clearing_rules::{Answer, Cheapest, Occupied, Run as ToClear, Runs};
@@ -254,8 +254,8 @@ fn with_files(files: &[(u32, u32)], program: Option<u32>, disc_end: u32) -> Vec<
     image
 }
 
-/// Every way to take some of so many bytes by files: of each byte whether it is free, the first of a file, or one more of
-/// the file before it.
+/// Every way to take some of so many bytes by files: of each byte whether it is free, the first of a file, or
+/// one more of the file before it.
 fn layouts(cells: u32) -> Vec<Vec<(u32, u32)>> {
     let mut all: Vec<Vec<(u32, u32)>> = vec![vec![]];
     for cell in 0..cells {
@@ -273,8 +273,8 @@ fn layouts(cells: u32) -> Vec<Vec<(u32, u32)>> {
     all
 }
 
-/// Every layout of a few bytes behind the table, with an empty file anywhere; without a program, and with one of 0xE4 bytes
-/// before, between and behind them; every size and budget.
+/// Every layout of a few bytes behind the table, with an empty file anywhere; without a program, and with one
+/// of 0xE4 bytes before, between and behind them; every size and budget.
 fn every_layout(run: &mut Run) {
     let mut r = Random::new(0);
     let mut wave = Wave::default();

@@ -1,5 +1,5 @@
-//! A second writing of a run to clear, by docs/RULES.md alone: the starts are tried one by one, those too that are no
-//! candidates.
+//! A second writing of a run to clear, by docs/RULES.md alone: the starts are tried one by one, those too
+//! that are no candidates.
 
 use crate::rules::{self, Tree};
 
@@ -84,8 +84,8 @@ impl Occupied {
         self.files.iter().filter(|file| touches(start, size, **file)).map(|(_, size)| size).sum()
     }
 
-    /// The starts to try: every byte. Where those are too many, each at which a run begins or ends to touch something,
-    /// and those beside it: between two of them every run touches the same.
+    /// The starts to try: every byte. Where those are too many, each at which a run begins or ends to touch
+    /// something, and those beside it: between two of them every run touches the same.
     fn starts(&self, size: u64) -> Vec<u64> {
         if self.disc_end - self.table_end <= EVERY_BYTE {
             return (self.table_end..=self.disc_end).collect();

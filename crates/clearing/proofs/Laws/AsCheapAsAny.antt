@@ -5,7 +5,7 @@ use Rattle.std.proofs.Common.{sym, ◌∙◌, inl, inr, arith, leb-true, le-leb}
 use Rattle.std.proofs.lemmas.Bool.{lt-leb}
 use Rattle.std.proofs.lemmas.List.{take_all}
 use Rattle.clearing.specs.declared.clear.CheapestRun.{CheapestRun}
-use Rattle.clearing.specs.Clearing.{Occupancy, occupancy_of, cost_of, candidates, cheaper_of, floor_of, bound_of, told_of, cheapest_of, cheapest_run}
+use Rattle.clearing.specs.Clearing.{Occupancy, occupancy_of, cost_of, candidates, cheaper_of, floor_of, bound_of, answer_at, cheapest_of, cheapest_run}
 use Rattle.clearing.specs.Theorem.{IsCheapestRun, AsCheapAsAny}
 use Rattle.clearing.proofs.Laws.Members.{In, in-contains, contains-in, in_take, rising-take}
 use Rattle.clearing.proofs.Laws.Cheapest.{cheapest-in, cheapest-least, cheapest-first}
@@ -53,7 +53,7 @@ module _ (o : Occupancy) (s : IsSound o) (n b x : ℕ) (xs : List ℕ) (some : 0
       go false q = omega (arith, floor-least o s n y some r)
 
 cheapest : (image : List ℕ) (s : IsSound (occupancy_of image)) (n b x : ℕ) (xs : List ℕ) (some : 0 < n) (e : candidates (occupancy_of image) n ≡ x ∷ xs) →
-    IsCheapestRun image n (suc b) (told_of (occupancy_of image) n (suc b) (best (occupancy_of image) s n b x xs some e))
+    IsCheapestRun image n (suc b) (answer_at (occupancy_of image) n (suc b) (best (occupancy_of image) s n b x xs some e))
 cheapest image s n b x xs some e = record {
   run = run-of image n y run;
   own = refl;
@@ -62,7 +62,6 @@ cheapest image s n b x xs some e = record {
   cheapest = λ z c. best-least o s n b x xs some e z (tried-in o s n b x xs some e z c);
   first = λ z c h. best-first o s n b x xs some e z (tried-in o s n b x xs some e z c) h;
   near = λ z r. near o s n b x xs some e z (run-on image n z r);
-  floor = λ z r. floor-least o s n z some (run-on image n z r);
   all = λ h. rw (le-leb (length (candidates o n)) (suc b) h);
   part = λ h. rw (lt-leb (length (candidates o n)) (suc b) h) (omega (arith, floor-least o s n y some run));
 }
@@ -81,7 +80,7 @@ by-budget : (image : List ℕ) → IsSound (occupancy_of image) → (n budget x 
 unfolding best
 by-budget image s n zero x xs some e found q = absurd (cc)
 by-budget image s n (suc b) x xs some e found q =
-    let f : found ≡ told_of (occupancy_of image) n (suc b) (fold (cheaper_of (occupancy_of image) n) x (take b xs)) = cc in
+    let f : found ≡ answer_at (occupancy_of image) n (suc b) (fold (cheaper_of (occupancy_of image) n) x (take b xs)) = cc in
     rw f (cheapest image s n b x xs some e)
 
 pub as-cheap-as-any : AsCheapAsAny

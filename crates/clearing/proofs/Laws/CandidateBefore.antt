@@ -1,16 +1,27 @@
--- LAW: for a run at any x there is a candidate at or before x that costs no more: the last end of a used region
--- at or before x starts a run that touches nothing that the run at x does not. Assumes nothing.
-use Rattle.std.specs.Prelude.{ℕ, ◌+◌, ◌<◌, ◌≤◌, ◌≡◌, refl, ◌⊎◌, Bool, true, false, ◌&&◌, List, [], ◌∷◌, ◌==◌, nat_le}
+-- LAW: for a run at any x there is a candidate at or before x that costs no more: the last end of a used
+-- region at or before x starts a run that touches nothing that the run at x does not. Assumes nothing.
+use Rattle.std.specs.Prelude.{ℕ, ◌+◌, ◌<◌, ◌≤◌, ◌≡◌, refl, ◌⊎◌, ◌↔◌, Bool, true, false, ◌&&◌, List, [], ◌∷◌, ◌==◌, nat_le}
 use Rattle.std.specs.List.{list_any}
-use Rattle.std.proofs.Common.{inl, inr, ⊎_elim, arith, leb-true, le-leb, eq-eqb}
+use Rattle.std.proofs.Common.{inl, inr, ⊎_elim, arith, leb-true, le-leb, eqb-true, eq-eqb}
 use Rattle.refusal.specs.Laws.Tests.{lt-or-le, and_left, and_right, and_both, or_right, never_both}
 use Rattle.space.specs.declared.region.DiscRegion.{DiscRegion}
 use Rattle.space.specs.Used.{end_of, nonempty_regions}
 use Rattle.space.specs.Layout.{are_disjoint}
 use Rattle.space.specs.Laws.UsedLaws.{nonempty_regions-cons, nonempty_regions-empty}
-use Rattle.clearing.specs.Clearing.{Occupancy, bytes_from, is_run, cost_of, is_end_of_use}
+use Rattle.clearing.specs.Clearing.{Occupancy, used_by, bytes_from, is_run, cost_of, is_end_of_use}
+use Rattle.clearing.proofs.Laws.Members.{In, any-in, in-any}
 use Rattle.clearing.proofs.Laws.Sound.{IsSound, IsRunOn}
 use Rattle.clearing.proofs.Laws.Touched.{touched_size, touched-apart, touched-shared, apart-before}
+
+-- ---- the end of a used region
+
+module _ (o : Occupancy) (x : ℕ) where
+  -- LAW: exactly where one ends
+  pub end-told : (is_end_of_use o x ≡ true) ↔ ((r : DiscRegion) × In r (used_by o) × (end_of r ≡ x))
+  end-told = (
+    λ e. let w = any-in (λ r. end_of r == x) (used_by o) e in (w.0, w.1, eqb-true (end_of w.0) x w.2),
+    λ h. in-any (λ r. end_of r == x) (used_by o) h.0 h.1 (eq-eqb (end_of h.0) x h.2),
+  )
 
 -- ---- a run, by its parts
 
@@ -98,7 +109,7 @@ module _ (o : Occupancy) (s : IsSound o) (n x : ℕ) (r : IsRunOn o n x) where
 
   module _ (y : ℕ) (l : IsLastEnd o.table_end x (o.program ∷ o.files) y) where
     before-used : is_end_of_use o y ≡ true
-    before-used = let e : ends_at y (table ∷ o.program ∷ o.files) ≡ true = go l.end in rw e
+    before-used = go l.end
       where
         table : DiscRegion
         table = record { offset = 0; size = o.table_end }

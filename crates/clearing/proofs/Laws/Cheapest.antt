@@ -1,5 +1,5 @@
--- The cheapest of some starts: it is one of them, none is cheaper, and where they rise each one before it costs
--- more. Assumes nothing.
+-- The cheapest of some starts: it is one of them, none is cheaper, and where they rise each one before it
+-- costs more. Assumes nothing.
 use Rattle.std.specs.Prelude.{ℕ, ◌<◌, ◌≤◌, ◌≡◌, refl, ◌⊎◌, List, [], ◌∷◌}
 use Rattle.std.specs.List.{fold}
 use Rattle.std.proofs.Common.{ap, inl, inr, ⊎_elim, arith, ltb-true, ltb-false}

@@ -1,6 +1,7 @@
--- LAW: of the used regions in order, the runs behind them are the candidates, each with its cost. Assumes nothing.
-use Rattle.std.specs.Prelude.{ℕ, ◌+◌, ◌<◌, ◌≤◌, ◌≡◌, refl, ◌⊎◌, Bool, true, false, cond, not, ◌&&◌, List, [], ◌∷◌, ◌==◌, map, filter, nat_lt}
-use Rattle.std.proofs.Common.{sym, ap, ◌∙◌, inl, inr, ⊎_elim, arith, lt-ltb, le-ltb, le-leb, eqb-true, eq-eqb}
+-- LAW: of the used regions in order, the runs behind them are the candidates, each with its cost.
+-- Assumes nothing.
+use Rattle.std.specs.Prelude.{ℕ, ◌+◌, ◌<◌, ◌≤◌, ◌≡◌, refl, ◌⊎◌, Bool, true, false, cond, not, ◌&&◌, List, [], ◌∷◌, map, filter, nat_lt}
+use Rattle.std.proofs.Common.{sym, ap, ◌∙◌, inl, inr, ⊎_elim, arith, lt-ltb, le-ltb, le-leb}
 use Rattle.refusal.specs.Laws.Tests.{lt-or-le, and_left, and_right, and_both, never_both}
 use Rattle.space.specs.declared.region.DiscRegion.{DiscRegion}
 use Rattle.space.specs.Used.{end_of, is_used, nonempty_regions, total_size}
@@ -13,13 +14,13 @@ use Rattle.space.specs.Laws.LongestLaws.{sequence-first, sequence-rest}
 use Rattle.space.specs.Laws.SizeLaws.{total_size-cons}
 use Rattle.space.specs.Laws.SortLaws.{same_size, same-regions}
 use Rattle.space.specs.Laws.UsedLaws.{is_inside-in, nonempty_regions-cons, nonempty_regions-empty, nonempty_regions-all}
-use Rattle.clearing.specs.declared.candidates.Run.{Run}
+use Rattle.clearing.specs.declared.stretch.Run.{Run}
 use Rattle.clearing.specs.Clearing.{Occupancy, used_by, bytes_from, is_run, cost_of, is_end_of_use, candidates}
-use Rattle.clearing.specs.Inner.Marks.{Sought, has_room, started_size, run_behind, runs_behind}
-use Rattle.clearing.proofs.Laws.Members.{In, any-in, in-any, among-in, in-among, IsRising, same-rising}
+use Rattle.clearing.specs.Inner.Marks.{Search, has_room, started_size, run_behind, runs_behind}
+use Rattle.clearing.proofs.Laws.Members.{In, among-in, in-among, IsRising, same-rising}
 use Rattle.clearing.proofs.Laws.Sound.{IsSound, IsRunOn}
 use Rattle.clearing.proofs.Laws.Touched.{touched_size, touched-apart, touched-some, touched-shared, apart-sides, shared}
-use Rattle.clearing.proofs.Laws.CandidateBefore.{run-parts}
+use Rattle.clearing.proofs.Laws.CandidateBefore.{end-told, run-parts}
 use Rattle.clearing.proofs.Laws.Candidates.{candidate-in, in-candidates, candidates-rising}
 
 -- these are the used regions, in order
@@ -29,7 +30,7 @@ pub record AreInOrder (o : Occupancy) (rs : List DiscRegion) : Type 0 where
   pub same : SameSums rs (used_by o)
 
 -- n bytes on that disc
-abbrev pub sought_on : Occupancy → ℕ → Sought
+abbrev pub sought_on : Occupancy → ℕ → Search
 sought_on o n = record { size = n; disc_end = o.disc_end; program = o.program }
 
 abbrev pub run_at : Occupancy → ℕ → ℕ → Run
@@ -84,11 +85,11 @@ touched-started n x a e (q ∷ qs) some h f s =
 -- ---- the ends of regions where a run starts
 
 -- those of regions in order, where there is room
-unfoldable starts : Sought → List DiscRegion → List ℕ
+unfoldable starts : Search → List DiscRegion → List ℕ
 starts t [] = []
 starts t (r ∷ rs) = cond (has_room t (end_of r)) (end_of r ∷ starts t rs) (starts t rs)
 
-in-starts : (t : Sought) (rs : List DiscRegion) (y : ℕ) → In y (starts t rs) → (r : DiscRegion) × (is_among r rs ≡ true) × (end_of r ≡ y) × (has_room t y ≡ true)
+in-starts : (t : Search) (rs : List DiscRegion) (y : ℕ) → In y (starts t rs) → (r : DiscRegion) × (is_among r rs ≡ true) × (end_of r ≡ y) × (has_room t y ≡ true)
 unfolding starts
 in-starts t [] y i = absurd i
 in-starts t (r ∷ rs) y i = go (has_room t (end_of r)) refl i (in-starts t rs y)
@@ -102,7 +103,7 @@ in-starts t (r ∷ rs) y i = go (has_room t (end_of r)) refl i (in-starts t rs y
     go true e (inr k) ih = later (ih k)
     go false e k ih = later (ih k)
 
-starts-in : (t : Sought) (r : DiscRegion) (rs : List DiscRegion) → is_among r rs ≡ true → has_room t (end_of r) ≡ true → In (end_of r) (starts t rs)
+starts-in : (t : Search) (r : DiscRegion) (rs : List DiscRegion) → is_among r rs ≡ true → has_room t (end_of r) ≡ true → In (end_of r) (starts t rs)
 unfolding starts
 starts-in t r [] h e = absurd (is_among-none r h)
 starts-in t r (q ∷ rs) h e = go (has_room t (end_of q)) refl (is_among-cases r q rs h) (λ k. starts-in t r rs k e)
@@ -117,7 +118,7 @@ among-some : (r : DiscRegion) (xs : List DiscRegion) → AllNonempty xs → is_a
 among-some r [] f h = absurd (is_among-none r h)
 among-some r (x ∷ xs) f h = ⊎_elim (λ e. rw (← e) f.0) (λ k. among-some r xs f.1 k) (is_among-cases r x xs h)
 
-starts-rising : (t : Sought) (a e : ℕ) (rs : List DiscRegion) → AllNonempty rs → is_in_sequence a e rs ≡ true → IsRising (starts t rs)
+starts-rising : (t : Search) (a e : ℕ) (rs : List DiscRegion) → AllNonempty rs → is_in_sequence a e rs ≡ true → IsRising (starts t rs)
 unfolding starts
 starts-rising t a e [] f s = tt
 starts-rising t a e (r ∷ rs) f s = go (has_room t (end_of r)) (starts-rising t (end_of r) e rs f.1 (sequence-rest a e r rs s))
@@ -164,8 +165,8 @@ module _ (o : Occupancy) (s : IsSound o) (rs : List DiscRegion) (a : AreInOrder 
       there : (y : ℕ) → In y (candidates o n) → In y (starts (sought_on o n) rs)
       there y i =
           let c = in-candidates o n y i in
-          let w = any-in (λ r. end_of r == y) (used_by o) (and_left (is_end_of_use o y) (is_run o n y) c) in
-          let q : end_of w.0 ≡ y = eqb-true (end_of w.0) y w.2 in
+          let w = (end-told o y).0 (and_left (is_end_of_use o y) (is_run o n y) c) in
+          let q : end_of w.0 ≡ y = w.2 in
           let h : is_among w.0 rs ≡ true = same-regions rs (used_by o) a.same w.0 ∙ in-among w.0 (used_by o) w.1 in
           let e : is_run o n (end_of w.0) ≡ true = rw q (and_right (is_end_of_use o y) (is_run o n y) c) in
           rw q at (starts-in (sought_on o n) w.0 rs h (sym (room-run w.0 h) ∙ e))
@@ -174,7 +175,7 @@ module _ (o : Occupancy) (s : IsSound o) (rs : List DiscRegion) (a : AreInOrder 
       back y i =
           let w = in-starts (sought_on o n) rs y i in
           let e : has_room (sought_on o n) (end_of w.0) ≡ true = rw w.2 w.3 in
-          let c : (is_end_of_use o (end_of w.0) && is_run o n (end_of w.0)) ≡ true = and_both (is_end_of_use o (end_of w.0)) _ (in-any (λ r. end_of r == end_of w.0) (used_by o) w.0 (among-in w.0 (used_by o) (among-used w.0 w.1)) (eq-eqb (end_of w.0) (end_of w.0) refl)) (room-run w.0 w.1 ∙ e) in
+          let c : (is_end_of_use o (end_of w.0) && is_run o n (end_of w.0)) ≡ true = and_both (is_end_of_use o (end_of w.0)) _ ((end-told o (end_of w.0)).1 (w.0, among-in w.0 (used_by o) (among-used w.0 w.1), refl)) (room-run w.0 w.1 ∙ e) in
           rw w.2 at (candidate-in o n (end_of w.0) c)
 
   -- behind b, a run touches of the regions those that are left

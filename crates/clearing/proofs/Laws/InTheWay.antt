@@ -1,11 +1,11 @@
 -- LAW: the files that a run costs are those in its way. Assumes nothing.
-use Rattle.std.specs.Prelude.{ℕ, ◌+◌, ◌<◌, ◌≤◌, max, ◌≡◌, true, false, not, List, ◌∷◌, Contains}
+use Rattle.std.specs.Prelude.{ℕ, ◌+◌, ◌<◌, ◌≤◌, max, ◌≡◌, refl, true, false, not, List, ◌∷◌, Contains}
 use Rattle.std.proofs.Common.{◌∙◌, arith, le-ltb}
 use Rattle.std.proofs.lemmas.Bool.{not-true}
 use Rattle.std.proofs.lemmas.List.Elements.{All-contains, filter_passes}
 use Rattle.header.specs.Verdicts.{table_end}
 use Rattle.space.specs.declared.region.DiscRegion.{DiscRegion}
-use Rattle.space.specs.Used.{is_inside, is_used, used_regions, used_total}
+use Rattle.space.specs.Used.{is_inside, is_used, used_regions, total_size, used_total}
 use Rattle.space.specs.Layout.{are_disjoint}
 use Rattle.space.specs.Laws.UsedLaws.{is_inside-in, used-is}
 use Rattle.space.specs.Laws.LayoutLaws.{from-all-free}
@@ -18,6 +18,10 @@ use Rattle.clearing.proofs.Laws.Touched.{first-shared}
 use Rattle.clearing.proofs.Laws.Floors.{touched-and-others, others-apart}
 
 module _ (image : List ℕ) (n x : ℕ) (r : IsRun image n x) where
+  sizes : cost_of (occupancy_of image) n x ≡ total_size (files_touched (occupancy_of image) n x)
+  unfolding cost_of
+  sizes = refl
+
   cleared : (i : ℕ) → x ≤ i → i < x + n → is_used (used_regions (table_end image) (program_behind image ∷ files_left (occupancy_of image) n x)) i ≡ false
   unfolding is_used
   cleared i h k =
@@ -42,4 +46,4 @@ module _ (image : List ℕ) (n x : ℕ) (r : IsRun image n x) where
       (max x f.offset, w.0, w.1, w.2)
 
 pub in-the-way : InTheWay
-in-the-way image n x r = record { cleared = cleared image n x r; freed = freed image n x r; needed = needed image n x r }
+in-the-way image n x r = record { sizes = sizes image n x r; cleared = cleared image n x r; freed = freed image n x r; needed = needed image n x r }

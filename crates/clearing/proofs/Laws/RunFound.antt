@@ -3,7 +3,7 @@ use Rattle.std.specs.Prelude.{ℕ, zero, suc, ◌<◌, ◌≡◌, refl, ◌⊎�
 use Rattle.std.specs.List.{fold}
 use Rattle.std.proofs.Common.{sym, ◌∙◌, inl, inr, ⊎_elim, arith}
 use Rattle.clearing.specs.declared.clear.CheapestRun.{CheapestRun}
-use Rattle.clearing.specs.Clearing.{Occupancy, occupancy_of, cheaper_of, told_of, cheapest_of, cheapest_run}
+use Rattle.clearing.specs.Clearing.{Occupancy, occupancy_of, cheaper_of, answer_at, cheapest_of, cheapest_run}
 use Rattle.clearing.specs.Theorem.{RunFound}
 use Rattle.clearing.proofs.Laws.Sound.{IsSound, IsRunOn}
 use Rattle.clearing.proofs.Laws.Told.{IsRefused, IsAnswered, told-cases, first-run, no-candidate}
@@ -16,7 +16,7 @@ some-of o n (suc b) x xs found e = omega arith
 
 of-some : (o : Occupancy) (n budget x : ℕ) (xs : List ℕ) → 0 < budget → (found : CheapestRun) × (cheapest_of o n budget (take budget (x ∷ xs)) ≡ Some found)
 of-some o n zero x xs h = absurd (omega arith)
-of-some o n (suc b) x xs h = (told_of o n (suc b) (fold (cheaper_of o n) x (take b xs)), refl)
+of-some o n (suc b) x xs h = (answer_at o n (suc b) (fold (cheaper_of o n) x (take b xs)), refl)
 
 module _ (o : Occupancy) (s : IsSound o) (n budget : ℕ) where
   found : (f : CheapestRun) → cheapest_run o n budget ≡ Ok (Some f) → (0 < budget) × (0 < n) × ((x : ℕ) × IsRunOn o n x)

@@ -1,16 +1,22 @@
--- The candidates and what they cost, by the used regions in order. Assumes nothing: these are definitions.
-use Rattle.std.specs.Prelude.{Option, Some, None, ℕ, ◌+◌, ◌-◌, ◌*◌, ◌^◌, ◌<◌, ◌≤◌, length, ◌≡◌, Bool, true, ◌&&◌, List, [], ◌∷◌, map, filter, if◌then◌else◌, nat_lt, nat_le}
+-- The candidates and what they cost, by the used regions in order. Assumes nothing: these are
+-- definitions.
+use Rattle.std.specs.Prelude.{ℕ, ◌+◌, ◌-◌, ◌*◌, ◌^◌, ◌<◌, ◌≤◌, length, ◌≡◌, Bool, true, ◌&&◌, List, [], ◌∷◌, map, filter, if◌then◌else◌, nat_lt, nat_le}
 use Rattle.space.specs.declared.region.DiscRegion.{DiscRegion}
 use Rattle.space.specs.Used.{end_of, total_size}
 use Rattle.space.specs.Layout.{are_disjoint}
 use Rattle.space.specs.Inner.Sort.{regions_in}
 use Rattle.space.specs.Inner.Words.{AllNonempty, is_in_sequence}
 use Rattle.clearing.specs.Clearing.{Occupancy, bytes_from, cost_of, candidates}
-use Rattle.clearing.specs.declared.candidates.Run.{Run}
-pub use Rattle.clearing.specs.declared.candidates.Sought.{Sought}
+use Rattle.clearing.specs.declared.stretch.Run.{Run}
+
+-- what is sought: so many bytes, that end by the disc's end and spare the program
+pub record Search : Type 0 where
+  pub size : ℕ
+  pub disc_end : ℕ
+  pub program : DiscRegion
 
 -- there is room for it at x
-abbrev pub has_room : Sought → ℕ → Bool
+abbrev pub has_room : Search → ℕ → Bool
 has_room s x = nat_le (x + s.size) s.disc_end && are_disjoint (bytes_from x s.size) s.program
 
 -- the sizes of the regions that start before y
@@ -18,11 +24,11 @@ unfoldable pub started_size : ℕ → List DiscRegion → ℕ
 started_size y rs = total_size (filter (λ r. nat_lt r.offset y) rs)
 
 -- the run behind a region costs the sizes of those behind it that start before the run ends
-abbrev pub run_behind : Sought → DiscRegion → List DiscRegion → Run
+abbrev pub run_behind : Search → DiscRegion → List DiscRegion → Run
 run_behind s r rs = record { offset = end_of r; cost = started_size (end_of r + s.size) rs }
 
 -- the runs behind regions in order, where there is room
-unfoldable pub runs_behind : Sought → List DiscRegion → List Run
+unfoldable pub runs_behind : Search → List DiscRegion → List Run
 runs_behind s [] = []
 runs_behind s (r ∷ rs) =
     if has_room s (end_of r) then run_behind s r rs ∷ runs_behind s rs else runs_behind s rs
@@ -31,36 +37,16 @@ runs_behind s (r ∷ rs) =
 abbrev pub candidate_runs : Occupancy → ℕ → List Run
 candidate_runs o n = map (λ x. record { offset = x; cost = cost_of o n x }) (candidates o n)
 
--- ---- a search that goes from one run to the next
-
--- what is sought, where the run starts at which the search stands, and the used regions behind that
-pub record Standing : Type 0 where
-  pub sought : Sought
-  pub offset : ℕ
-  pub rest : List DiscRegion
-
--- the run there, and those that are left
-abbrev pub run_here : Standing → Run
-run_here p =
-    record { offset = p.offset; cost = started_size (p.offset + p.sought.size) p.rest }
-
-abbrev pub runs_left : Standing → List Run
-runs_left p = runs_behind p.sought p.rest
-
--- by the cases of the answer: the next run starts at x, or none is left
-abbrev pub PassesTo : Standing → Standing → Option ℕ → Type 0
-PassesTo old new (Some x) = (new.offset ≡ x) × (runs_left old ≡ run_here new ∷ runs_left new)
-PassesTo old new None = (runs_left old ≡ []) × (runs_left new ≡ [])
-
 -- ---- the two marks
 
 abbrev pub AllStartBefore : ℕ → List DiscRegion → Type 0
 AllStartBefore y [] = Unit {0}
 AllStartBefore y (r ∷ rs) = (r.offset < y) × AllStartBefore y rs
 
--- m used regions stand in words, those from i on in order and behind x; those from there up to j start
--- before the run at x ends, and have so many bytes
-pub record AreMarks (s : Sought) (x : ℕ) (w : List ℕ) (m i j between : ℕ) : Type 0 where
+-- m used regions stand in words, those from i on in order and behind x; those from there up to j
+-- start before the run at x ends, and have so many bytes
+pub record AreMarks (s : Search) (x : ℕ) (w : List ℕ) (m i j between : ℕ) : Type 0 where
+  pub some : 0 < s.size
   pub small : s.disc_end < 2 ^ 32
   pub held : 2 * m ≤ length w
   pub first : i ≤ j

@@ -46,8 +46,8 @@ number-slots :
     (entry_reply old (Ok tt) 1 ≡ reply 0 (1 ∷ []))
 number-slots = (refl, refl, refl)
 
--- "answer[4]: how many were tried; where the cheapest of them starts, of equals the first; its cost; and a bound"; "All four are 0 if none was
--- tried"
+-- "answer[4]: how many were tried; where the cheapest of them starts, of equals the first; its cost;
+-- and a bound"; "All four are 0 if none was tried"
 run-slots :
     (reply_of run_words old (Ok (Some (record { tried = 1; offset = 2; cost = 3; bound = 4 }))) ≡ reply 0 (1 ∷ 2 ∷ 3 ∷ 4 ∷ [])) ×
     (reply_of run_words old (Ok None) ≡ reply 0 (0 ∷ 0 ∷ 0 ∷ 0 ∷ []))

@@ -1,5 +1,5 @@
--- Worked runs to clear, by computing: on the small master, beside a program wherever that lies, by each
--- floor, and with empty files. Assumes nothing.
+-- Worked runs to clear, by computing: on the small master, beside a program wherever that lies, by
+-- each floor, and with empty files. Assumes nothing.
 use Rattle.std.specs.Prelude.{Result, Ok, Err, Option, None, Some}
 use Rattle.std.specs.Prelude.{ℕ, ◌-◌, ◌^◌, ◌≡◌, refl, List}
 use Rattle.endian.specs.Bytes.{be24, be32, put}
@@ -14,10 +14,10 @@ use Rattle.space.specs.Layout.{are_disjoint}
 use Rattle.space.specs.Free.{runs, free_regions, largest_size}
 use Rattle.opened.specs.Opening.{table_of, opening}
 use Rattle.clearing.specs.declared.clear.CheapestRun.{CheapestRun}
-use Rattle.clearing.specs.Clearing.{Occupancy, cost_of, passing, candidates, floor_of, cheapest_run, clear_answer}
+use Rattle.clearing.specs.Clearing.{Occupancy, cost_of, candidates, floor_of, cheapest_run, clear_answer}
 use Rattle.clearing.proofs.Laws.Orders.{opening-first}
 use Rattle.worked.specs.Image.{master, master_words}
-use Rattle.worked.specs.Laws.ClearImages.{moved, between, abutted, before_files, behind_files, before_table, apart, Reads, at_master, at_moved, at_between, at_abutted, at_before_files, at_behind_files, at_before_table, at_apart}
+use Rattle.worked.specs.Laws.ClearImages.{moved, between, abutted, before_files, behind_files, before_table, behind_table, one_byte, filled, apart, Reads, at_master, at_moved, at_between, at_abutted, at_before_files, at_behind_files, at_before_table, at_behind_table, at_one_byte, at_filled, at_apart}
 
 abbrev pub clear : List ℕ → ℕ → ℕ → Result (Option CheapestRun) Refusal
 clear image n budget = clear_answer image master_words n budget
@@ -53,7 +53,7 @@ pub record OnMaster : Type 0 where
       (clear master 6656 1 ≡ found 1 1114 256 256)
       × (clear master 6656 2 ≡ found 2 1536 0 0)
   pub past : clear master 6657 1 ≡ found 1 1114 256 0
-  -- all bytes behind the table; one more: 21 whatever the budget, and so of the largest size and of 0
+  -- all bytes behind the table; one more: 21 whatever the budget; so of the largest size and of 0
   pub all : (clear master 7078 9 ≡ found 1 1114 256 0) × (clear master 7078 0 ≡ Ok None)
   pub more : (budget : ℕ) → clear master 7079 budget ≡ Err NotEnoughSpace
   pub largest : (budget : ℕ) → clear master most budget ≡ Err NotEnoughSpace
@@ -73,7 +73,7 @@ unfolding master put opening header_verdict all_fields_verdict field_verdict fie
 few = refl
 
 pub on-master : OnMaster
-unfolding cheapest_run candidates passing cost_of floor_of is_used nonempty_regions total_size are_disjoint runs free_regions largest_size
+unfolding cheapest_run candidates cost_of floor_of is_used nonempty_regions total_size are_disjoint runs free_regions largest_size
 on-master = record {
   one = answered at_master 167 1;
   two = answered at_master 167 2;
@@ -98,8 +98,8 @@ on-master = record {
 pub record BesideProgram : Type 0 where
   -- between two files of 40 and 30 bytes; 12, 20, 12 and 30 bytes are free. Its end is a candidate
   pub four : clear between 20 9 ≡ found 4 1180 0 0
-  -- and the cheapest start: behind the first file the run would touch the program, and behind the second
-  -- pass the disc end
+  -- and the cheapest start: behind the first file the run would touch the program, and behind the
+  -- second pass the disc end
   pub cheapest : clear between 31 2 ≡ found 2 1428 30 0
   pub first : clear between 31 1 ≡ found 1 1128 40 39
   -- up to its first byte, and from its end to the disc's
@@ -112,6 +112,8 @@ pub record BesideProgram : Type 0 where
       (clear abutted 30 1 ≡ found 1 1128 30 30)
       × (clear abutted 30 2 ≡ found 2 1396 24 24)
       × (clear abutted 30 3 ≡ found 3 1420 0 0)
+  -- one that costs more than a run before it is tried and counted all the same
+  pub dearer : (clear abutted 10 2 ≡ found 2 1128 0 0) × (clear abutted 10 9 ≡ found 3 1128 0 0)
   -- with its first byte the run would touch it
   pub touches : (clear abutted 40 9 ≡ found 3 1420 0 0) × (clear abutted 41 9 ≡ found 1 1396 24 0)
   -- before all files, 6 bytes behind the table
@@ -131,9 +133,13 @@ pub record BesideProgram : Type 0 where
   pub in-table :
       (clear before_table 10 9 ≡ found 2 1342 0 0)
       × (clear before_table 58 9 ≡ found 1 1342 30 0)
+  -- right behind the table: its bytes are not free, so that 20 are 6 more than all free bytes
+  pub not-free :
+      (clear behind_table 20 1 ≡ found 1 1356 30 24)
+      × (clear behind_table 20 2 ≡ found 2 1356 30 0)
 
 pub beside-program : BesideProgram
-unfolding cheapest_run candidates passing cost_of floor_of is_used nonempty_regions total_size are_disjoint runs free_regions largest_size
+unfolding cheapest_run candidates cost_of floor_of is_used nonempty_regions total_size are_disjoint runs free_regions largest_size
 beside-program = record {
   four = answered at_between 20 9;
   cheapest = answered at_between 31 2;
@@ -141,11 +147,13 @@ beside-program = record {
   full = (answered at_between 72 1, answered at_between 72 2);
   split = λ budget. answered at_between 73 budget;
   abuts = (answered at_abutted 30 1, answered at_abutted 30 2, answered at_abutted 30 3);
+  dearer = (answered at_abutted 10 2, answered at_abutted 10 9);
   touches = (answered at_abutted 40 9, answered at_abutted 41 9);
   before = (answered at_before_files 6 9, answered at_before_files 7 9, answered at_before_files 13 1);
   behind = (answered at_behind_files 12 9, answered at_behind_files 13 9);
   below = (answered at_behind_files 46 9, λ budget. answered at_behind_files 47 budget);
   in-table = (answered at_before_table 10 9, answered at_before_table 58 9);
+  not-free = (answered at_behind_table 20 1, answered at_behind_table 20 2);
 }
 
 -- ---- two files of 30 bytes, with 10 bytes free before each and 20 behind them, and empty files
@@ -174,7 +182,7 @@ pub record Floors : Type 0 where
   pub both : (clear apart 70 9 ≡ found 1 1156 60 0) × (clear apart 100 9 ≡ found 1 1156 60 0)
 
 pub floors : Floors
-unfolding cheapest_run candidates passing cost_of floor_of is_used nonempty_regions total_size are_disjoint runs free_regions largest_size
+unfolding cheapest_run candidates cost_of floor_of is_used nonempty_regions total_size are_disjoint runs free_regions largest_size
 floors = record {
   row = answered at_apart 20 1;
   least = (answered at_apart 21 1, answered at_apart 40 1, answered at_apart 41 1);
@@ -183,4 +191,22 @@ floors = record {
   budgets = (answered at_apart 20 0, answered at_apart 20 2, answered at_apart 20 3, answered at_apart 20 4);
   empty = answered at_apart 21 2;
   both = (answered at_apart 70 9, answered at_apart 100 9);
+}
+
+-- ---- a file right behind the table
+
+pub record BehindTable : Type 0 where
+  -- of one byte: a run of as many costs it, or is free behind it
+  pub one : (clear one_byte 1 1 ≡ found 1 1114 1 1) × (clear one_byte 1 2 ≡ found 2 1115 0 0)
+  -- of all bytes there: none is free, and its start is the one candidate, up to its size
+  pub all :
+      (clear filled 1 1 ≡ found 1 1114 30 0)
+      × (clear filled 30 1 ≡ found 1 1114 30 0)
+      × ((budget : ℕ) → clear filled 31 budget ≡ Err NotEnoughSpace)
+
+pub behind-table : BehindTable
+unfolding cheapest_run candidates cost_of floor_of is_used nonempty_regions total_size are_disjoint runs free_regions largest_size
+behind-table = record {
+  one = (answered at_one_byte 1 1, answered at_one_byte 1 2);
+  all = (answered at_filled 1 1, answered at_filled 30 1, λ budget. answered at_filled 31 budget);
 }

@@ -1,5 +1,5 @@
--- Each theorem about runs to clear, applied to the worked discs: what it says is read off in numbers.
--- Assumes nothing.
+-- Each theorem about runs to clear, applied to the worked discs: what it says is read off in
+-- numbers. Assumes nothing.
 use Rattle.std.specs.Prelude.{Ok, Err, None, Some}
 use Rattle.std.specs.Prelude.{ℕ, zero, suc, ◌+◌, ◌<◌, ◌≤◌, ◌≡◌, ◌⊎◌, refl, true, false, List, [], ◌∷◌, Contains, slice_index}
 use Rattle.std.proofs.Common.{sym, ap, subst, ◌∙◌, inl, inr, ⊎_elim, arith}
@@ -17,7 +17,7 @@ use Rattle.space.specs.Laws.LayoutLaws.{is_inside-from}
 use Rattle.executable.specs.Program.{program_behind}
 use Rattle.opened.specs.Opening.{regions_behind_table, used_in, used_of}
 use Rattle.clearing.specs.declared.clear.CheapestRun.{CheapestRun}
-use Rattle.clearing.specs.Clearing.{Occupancy, occupancy_of, used_by, files_touched, cost_of, passing, candidates, floor_of}
+use Rattle.clearing.specs.Clearing.{Occupancy, occupancy_of, used_by, files_touched, cost_of, candidates, floor_of}
 use Rattle.clearing.specs.Theorem.{IsRun, IsCheapestRun, IsFreeRow, files_left, IsInTheWay}
 use Rattle.clearing.proofs.Laws.NoRun.{no-run}
 use Rattle.clearing.proofs.Laws.NoneTried.{none-tried}
@@ -97,8 +97,8 @@ abbrev Tells : (image : List ℕ) → ℕ → ℕ → CheapestRun → Type 0
 Tells image n budget told = clear image n budget ≡ Ok (Some told)
 
 pub record NoneOrRun : Type 0 where
-  -- 5389 bytes from 2000 on are a run, though nothing ends there: with the budget 0 none is tried, with
-  -- any other a run is told
+  -- 5389 bytes from 2000 on are a run, though nothing ends there: with the budget 0 none is tried,
+  -- with any other a run is told
   pub none : clear master 5389 0 ≡ Ok None
   pub some : (budget : ℕ) → 0 < budget → (told : CheapestRun) × Tells master 5389 budget told
   -- and with no other is none tried; where none is, some start gives a run
@@ -125,9 +125,10 @@ none-or-run =
       some-start = (some.1, (some.2.0, run-lies at_between 31 some.2.0 some.2.1));
     }
 
--- ---- a run told, whatever it is: with candidates, costs and floor computed the theorem leaves one answer
+-- ---- a run told, whatever it is: with candidates, costs and floor computed, one answer is left
 
-told-facts : {image : List ℕ} {o : Occupancy} → Reads image o → (n budget : ℕ) (told : CheapestRun) →
+told-facts : {image : List ℕ} {o : Occupancy} → Reads image o →
+    (n budget : ℕ) (told : CheapestRun) →
     Tells image n budget told → IsCheapestRun image n budget told
 told-facts {image} r n budget told e = as-cheap-as-any image master_words n budget told r.bytes r.opens e
 
@@ -151,7 +152,7 @@ apart-45 :
     × (cost_of of_apart 45 1156 ≡ 30)
     × (cost_of of_apart 45 1196 ≡ 30)
     × (floor_of of_apart 45 ≡ 5)
-unfolding candidates passing cost_of floor_of is_used nonempty_regions total_size are_disjoint runs free_regions largest_size
+unfolding candidates cost_of floor_of is_used nonempty_regions total_size are_disjoint runs free_regions largest_size
 apart-45 = (refl, refl, refl, refl)
 
 between-31 :
@@ -159,7 +160,7 @@ between-31 :
     × (cost_of of_between 31 1128 ≡ 40)
     × (cost_of of_between 31 1428 ≡ 30)
     × (floor_of of_between 31 ≡ 1)
-unfolding candidates passing cost_of floor_of is_used nonempty_regions total_size are_disjoint runs free_regions largest_size
+unfolding candidates cost_of floor_of is_used nonempty_regions total_size are_disjoint runs free_regions largest_size
 between-31 = (refl, refl, refl, refl)
 
 -- one tried: the bound is the cost without the floor
@@ -212,13 +213,6 @@ pub record Anywhere : Type 0 where
   pub near-1430 : (40 ≤ cost_of of_between 31 1430 + 39) × (cost_of of_between 31 1430 ≡ 30)
   -- a bound as large as the cost says nothing, and there are runs that cost nothing
   pub near-1600 : (256 ≤ cost_of of_master 167 1600 + 256) × (cost_of of_master 167 1600 ≡ 0)
-  -- no 42 bytes in a row cost less than 2, and none of 31 that spare the program are free
-  pub floor : (x : ℕ) → 1156 ≤ x → x + 42 ≤ 1256 → 2 ≤ cost_of of_apart 42 x
-  pub least : (x : ℕ) → LiesOn of_between 31 x → 1 ≤ cost_of of_between 31 x
-
-apart-42 : floor_of of_apart 42 ≡ 2
-unfolding floor_of is_used nonempty_regions total_size runs free_regions largest_size
-apart-42 = refl
 
 costs-elsewhere : (cost_of of_between 31 1430 ≡ 30) × (cost_of of_master 167 1600 ≡ 0)
 unfolding cost_of are_disjoint total_size
@@ -233,8 +227,6 @@ anywhere =
       near = λ x h j. rw at_apart.occupied at ((told-facts at_apart 45 1 _ floors.beyond.1).near x (run-on-apart 45 x h j));
       near-1430 = (rw at_between.occupied at ((told-facts at_between 31 1 _ beside-program.first).near 1430 (run-behind-program 31 1430 (omega arith) (omega arith))), costs-elsewhere.0);
       near-1600 = (rw at_master.occupied at ((told-facts at_master 167 1 _ on-master.one).near 1600 (run-on-master 167 1600 (omega arith) (omega arith))), costs-elsewhere.1);
-      floor = λ x h j. rw (at_apart.occupied, apart-42) at ((told-facts at_apart 42 1 _ floors.beyond.0).floor x (run-on-apart 42 x h j));
-      least = λ x l. rw (at_between.occupied, between-31.3) at (both.floor x (run-there at_between 31 x l));
     }
 
 -- ---- which runs are candidates
@@ -257,10 +249,10 @@ used_apart = at 0 1156 ∷ at 1206 30 ∷ at 1166 30 ∷ []
 ends : {r s : DiscRegion} {x : ℕ} → r ≡ s → end_of s ≡ x → end_of r ≡ x
 ends e is = ap (λ (r : DiscRegion). end_of r) e ∙ is
 
--- of the ends beside the program the first file's is too near to the program, and the last one's to the
--- disc end
-only-ends : (x : ℕ) → LiesOn of_between 31 x → (r : DiscRegion) → Contains used_between r → end_of r ≡ x →
-    (x ≡ 1128) ⊎ (x ≡ 1428)
+-- of the ends beside the program the first file's is too near to the program, and the last one's to
+-- the disc end
+only-ends : (x : ℕ) → LiesOn of_between 31 x →
+    (r : DiscRegion) → Contains used_between r → end_of r ≡ x → (x ≡ 1128) ⊎ (x ≡ 1428)
 only-ends x l r (zero, h, e) is = inl (sym (ends e is))
 only-ends x l r (suc zero, h, e) is = inr (sym (ends e is))
 only-ends x l r (suc (suc zero), h, e) is =
@@ -287,9 +279,9 @@ none-ends-at-1201 r (suc (suc (suc k)), h, e) is = omega arith
 pub each-end : EachEnd
 unfolding nonempty_regions
 each-end =
-    let beside = each-candidate between master_words 31 at_between.bytes at_between.opens in
-    let of-21 = each-candidate apart master_words 21 at_apart.bytes at_apart.opens in
-    let of-45 = each-candidate apart master_words 45 at_apart.bytes at_apart.opens in
+    let beside = each-candidate between 31 in
+    let of-21 = each-candidate apart 21 in
+    let of-45 = each-candidate apart 45 in
     let two = (told-facts at_apart 45 9 _ floors.equals.1).count in
     record {
       program-end = rw at_between.occupied at ((beside.1 1428).1 (run-behind-program 31 1428 (omega arith) (omega arith), (at 1200 228, rw (used-regions at_between) (1, omega arith, refl), refl)));
@@ -302,10 +294,17 @@ each-end =
 
 pub record FloorSaid : Type 0 where
   -- 20 free bytes in a row stand between the first file and the program
-  pub none : floor_of of_between 20 ≡ 0
+  pub row : floor_of of_between 20 ≡ 0
   -- 21 in a row stand nowhere on the other disc, where 40 of 1256 bytes are free
   pub least : floor_of of_apart 21 ≡ 1
   pub beyond : floor_of of_apart 45 ≡ 5
+  -- no 42 bytes there cost less than 2; beside the program no 31 are free, nor those from 1430 on,
+  -- where no used region ends
+  pub nowhere : (x : ℕ) → 1156 ≤ x → x + 42 ≤ 1256 → 2 ≤ cost_of of_apart 42 x
+  pub not-free : (x : ℕ) → LiesOn of_between 31 x → 1 ≤ cost_of of_between 31 x
+  pub from-1430 : 1 ≤ cost_of of_between 31 1430
+  -- a row of no bytes stands anywhere, so that their floor is 0
+  pub nothing : floor_of of_between 0 ≡ 0
 
 free-row : IsFreeRow between 20 1180
 unfolding nonempty_regions is_used
@@ -336,22 +335,36 @@ module _ (n x : ℕ) (enough : 21 ≤ n) (row : IsFreeRow apart n x) where
       not-used (at 1206 30) refl x (omega arith) (omega arith) (omega arith) (omega arith))
       (cases_lt x 1206)) (cases_lt x 1196)) (cases_lt x 1166)) (cases_lt x 1156)
 
+apart-42 : floor_of of_apart 42 ≡ 2
+unfolding floor_of is_used nonempty_regions total_size runs free_regions largest_size
+apart-42 = refl
+
 pub floor-said : FloorSaid
 unfolding total_size
 floor-said =
-    let of-21 = floor-of-all apart master_words 21 at_apart.bytes at_apart.opens (omega arith) in
-    let of-45 = floor-of-all apart master_words 45 at_apart.bytes at_apart.opens (omega arith) in
-    let of-20 = floor-of-all between master_words 20 at_between.bytes at_between.opens (omega arith) in
+    let of-21 = floor-of-all apart master_words 21 at_apart.bytes at_apart.opens in
+    let of-45 = floor-of-all apart master_words 45 at_apart.bytes at_apart.opens in
+    let of-42 = floor-of-all apart master_words 42 at_apart.bytes at_apart.opens in
+    let of-20 = floor-of-all between master_words 20 at_between.bytes at_between.opens in
+    let of-31 = floor-of-all between master_words 31 at_between.bytes at_between.opens in
+    let of-0 = floor-of-all between master_words 0 at_between.bytes at_between.opens in
+    let not-free = λ (x : ℕ) (l : LiesOn of_between 31 x). rw (at_between.occupied, between-31.3) at (of-31.least x (run-there at_between 31 x l)) in
     record {
-      none = rw at_between.occupied at (of-20.none 1180 free-row);
-      least = rw (at_apart.occupied, used-bytes at_apart, disc-ends at_apart) at (of-21.some (λ x row. no-row 21 x (omega arith) row));
-      beyond = rw (at_apart.occupied, used-bytes at_apart, disc-ends at_apart) at (of-45.some (λ x row. no-row 45 x (omega arith) row));
+      row = rw at_between.occupied at (of-20.row 1180 free-row);
+      least = rw (at_apart.occupied, used-bytes at_apart, disc-ends at_apart) at (of-21.no_row (λ x row. no-row 21 x (omega arith) row));
+      beyond = rw (at_apart.occupied, used-bytes at_apart, disc-ends at_apart) at (of-45.no_row (λ x row. no-row 45 x (omega arith) row));
+      nowhere = λ x h j. rw (at_apart.occupied, apart-42) at (of-42.least x (run-on-apart 42 x h j));
+      not-free = not-free;
+      from-1430 = not-free 1430 (omega arith, omega arith, λ i h j. is_inside-high (at 1200 228) i (omega arith));
+      nothing = rw at_between.occupied at (of-0.row 0 (record { ends = omega arith; free = λ i h j. absurd (omega arith) }));
     }
 
--- ---- what is in the way of a run: of 31 bytes from 1430 on, in the file behind the program, and of 45
--- from 1170 on, in both files of `apart`
+-- ---- what is in the way of a run: of 31 bytes from 1430 on, in the file behind the program, and
+-- of 45 from 1170 on, in both files of `apart`
 
 pub record InWay : Type 0 where
+  -- they cost the one file's size, and both files'
+  pub sizes : (cost_of of_between 31 1430 ≡ 30) × (cost_of of_apart 45 1170 ≡ 60)
   -- table, program and the first file stay, and have no byte of it
   pub cleared : (i : ℕ) → 1430 ≤ i → i < 1461 →
       is_used (at 0 1128 ∷ at 1200 228 ∷ at 1140 40 ∷ []) i ≡ false
@@ -370,6 +383,9 @@ in-both = in-the-way apart 45 1170 (run-on-apart 45 1170 (omega arith) (omega ar
 abbrev Cleared : ℕ → ℕ → ℕ → Occupancy → Type 0
 Cleared n x i o = is_used (used_regions o.table_end (o.program ∷ files_left o n x)) i ≡ false
 
+abbrev Sizes : ℕ → ℕ → Occupancy → Type 0
+Sizes n x o = cost_of o n x ≡ total_size (files_touched o n x)
+
 abbrev Freed : List ℕ → ℕ → ℕ → Occupancy → Type 0
 Freed image n x o =
     used_total o.table_end (o.program ∷ files_left o n x) + cost_of o n x ≡ used_of image
@@ -378,11 +394,17 @@ touched : Contains (files_touched (occupancy_of between) 31 1430) (at 1440 30)
 unfolding are_disjoint
 touched = subst (λ (o : Occupancy). Contains (files_touched o 31 1430) (at 1440 30)) (sym at_between.occupied) (0, omega arith, refl)
 
+-- what a cost is stays closed here: the theorem tells
+sizes-said : (cost_of of_between 31 1430 ≡ 30) × (cost_of of_apart 45 1170 ≡ 60)
+unfolding are_disjoint total_size
+sizes-said = (subst (Sizes 31 1430) at_between.occupied in-second.sizes, subst (Sizes 45 1170) at_apart.occupied in-both.sizes)
+
 pub in-way : InWay
 unfolding cost_of are_disjoint nonempty_regions total_size
 in-way =
     let byte = in-second.needed (at 1440 30) touched in
     record {
+      sizes = sizes-said;
       cleared = λ i h j. subst (Cleared 31 1430 i) at_between.occupied (in-second.cleared i h j);
       freed = (subst (Freed between 31 1430) at_between.occupied in-second.freed, subst (Freed apart 45 1170) at_apart.occupied in-both.freed);
       needed = (byte.0, is_inside-from (at 1440 30) byte.0 byte.3, byte.2);

@@ -1,5 +1,5 @@
--- Small discs for runs to clear, written out from the layout, and what takes their bytes, by computing.
--- Assumes nothing.
+-- Small discs for runs to clear, written out from the layout, and what takes their bytes, by
+-- computing. Assumes nothing.
 use Rattle.std.specs.Prelude.{Ok}
 use Rattle.std.specs.Prelude.{ℕ, suc, ◌≡◌, refl, List, [], ◌∷◌, length, replicate}
 use Rattle.endian.specs.Bytes.{AllBytes, be24, be32, be32_bytes, put}
@@ -28,7 +28,8 @@ files_from letter (r ∷ rs) = file (letter ∷ []) r.offset r.size ∷ files_fr
 abbrev table : List DiscRegion → List ℕ
 table files = encode (directory [] (suc (length files)) ∷ files_from 0x61 files)
 
--- a disc that ends at e: its table at `fst`, a program of 0xE4 bytes at `dol`, or none at 0, these files
+-- a disc that ends at e, with these files: its table at `fst`, a program of 0xE4 bytes at `dol`, or
+-- none where that is 0
 abbrev disc : ℕ → ℕ → ℕ → List DiscRegion → List ℕ
 disc e fst dol files =
     put (put (put (put (put (put (replicate e 0)
@@ -66,6 +67,17 @@ behind_files = disc 1400 0x440 1160 (at 1120 30 ∷ [])
 -- the program before the table, which it abuts
 unfoldable pub before_table : List ℕ
 before_table = disc 1400 1316 0x440 (at 1352 30 ∷ [])
+
+-- the program right behind the table
+unfoldable pub behind_table : List ℕ
+behind_table = disc 1430 0x440 1128 (at 1360 30 ∷ at 1394 30 ∷ [])
+
+-- a file right behind the table: of one byte, and of all that is there
+unfoldable pub one_byte : List ℕ
+one_byte = disc 1130 0x440 0 (at 1114 1 ∷ [])
+
+unfoldable pub filled : List ℕ
+filled = disc 1144 0x440 0 (at 1114 30 ∷ [])
 
 -- two files, the later one first in the table, and two empty ones: between them, and at 0
 unfoldable pub apart : List ℕ
@@ -122,3 +134,16 @@ at_before_table = record { bytes = bytes-only before_table refl; opens = refl; o
 pub at_apart : Reads apart of_apart
 unfolding apart put bytes_only opening layout_verdict header_verdict all_fields_verdict field_verdict fields bounds_verdict table_of check nodes_in nodes_of nodes_from node_at name_at count entries_verdict entry_verdict is_unended walk name_verdict next_verdict dirs_open_at is_plain is_safe be24 be32 used_in regions_behind_table program_of program_in own_region words_at largest_of nonempty_regions are_disjoint_below are_pairwise_disjoint is_disjoint_from_all are_disjoint are_below units encode entries_bytes texts_of parent_of parent_below
 at_apart = record { bytes = bytes-only apart refl; opens = refl; occupied = refl }
+
+pub at_behind_table :
+    Reads behind_table (taken 1128 1430 (at 1128 228) (at 1360 30 ∷ at 1394 30 ∷ []))
+unfolding behind_table put bytes_only opening layout_verdict header_verdict all_fields_verdict field_verdict fields bounds_verdict table_of check nodes_in nodes_of nodes_from node_at name_at count entries_verdict entry_verdict is_unended walk name_verdict next_verdict dirs_open_at is_plain is_safe be24 be32 used_in regions_behind_table program_of program_in own_region words_at largest_of nonempty_regions are_disjoint_below are_pairwise_disjoint is_disjoint_from_all are_disjoint are_below units encode entries_bytes texts_of parent_of parent_below
+at_behind_table = record { bytes = bytes-only behind_table refl; opens = refl; occupied = refl }
+
+pub at_one_byte : Reads one_byte (taken 1114 1130 no_region (at 1114 1 ∷ []))
+unfolding one_byte put bytes_only opening layout_verdict header_verdict all_fields_verdict field_verdict fields bounds_verdict table_of check nodes_in nodes_of nodes_from node_at name_at count entries_verdict entry_verdict is_unended walk name_verdict next_verdict dirs_open_at is_plain is_safe be24 be32 used_in regions_behind_table program_of program_in own_region words_at largest_of nonempty_regions are_disjoint_below are_pairwise_disjoint is_disjoint_from_all are_disjoint are_below units encode entries_bytes texts_of parent_of parent_below
+at_one_byte = record { bytes = bytes-only one_byte refl; opens = refl; occupied = refl }
+
+pub at_filled : Reads filled (taken 1114 1144 no_region (at 1114 30 ∷ []))
+unfolding filled put bytes_only opening layout_verdict header_verdict all_fields_verdict field_verdict fields bounds_verdict table_of check nodes_in nodes_of nodes_from node_at name_at count entries_verdict entry_verdict is_unended walk name_verdict next_verdict dirs_open_at is_plain is_safe be24 be32 used_in regions_behind_table program_of program_in own_region words_at largest_of nonempty_regions are_disjoint_below are_pairwise_disjoint is_disjoint_from_all are_disjoint are_below units encode entries_bytes texts_of parent_of parent_below
+at_filled = record { bytes = bytes-only filled refl; opens = refl; occupied = refl }

@@ -325,8 +325,8 @@ pub fn program_to(path: &Path, at: u32) {
     file.write_all_at(&at.to_be_bytes(), 0x420).unwrap();
 }
 
-/// A disc of `end` bytes with these entries, slack behind their names and an empty program before the table; what is
-/// free holds a pattern.
+/// A disc of `end` bytes with these entries, slack behind their names and an empty program before the table;
+/// what is free holds a pattern.
 pub fn program_master(entries: &[Wish], end: u32, seed: u32) -> Vec<u8> {
     let mut table = table(entries);
     table.extend([b'x', b'x', 0]);
