@@ -1,5 +1,5 @@
 -- The two marks, step by step. Assumes nothing.
-use Rattle.std.specs.Prelude.{ℕ, ◌+◌, ◌-◌, ◌<◌, ◌≤◌, ◌≡◌, true, List, [], ◌∷◌, ◌++◌, if◌then◌else◌, ◌==◌, nat_le}
+use Rattle.std.specs.Prelude.{ℕ, ◌+◌, ◌-◌, ◌<◌, ◌≤◌, ◌≡◌, true, List, [], ◌∷◌, ◌++◌, ◌==◌, nat_le}
 use Rattle.std.proofs.Common.{refl, sym, ap, ◌∙◌, ⊎_elim, arith, eq-eqb, ne_eqb, le-leb}
 use Rattle.std.proofs.lemmas.Bool.{lt-leb}
 use Rattle.refusal.specs.Laws.Tests.{lt-or-le}
@@ -7,7 +7,7 @@ use Rattle.space.specs.declared.region.DiscRegion.{DiscRegion}
 use Rattle.space.specs.Used.{end_of, total_size}
 use Rattle.space.specs.Inner.Sort.{region_at, regions_in}
 use Rattle.space.specs.Inner.Words.{AllNonempty, is_in_sequence}
-use Rattle.space.specs.Laws.LongestLaws.{sequence-first, sequence-rest, sequence-le}
+use Rattle.space.specs.Laws.LongestLaws.{sequence-first, sequence-rest}
 use Rattle.space.specs.Laws.SizeLaws.{total_size-cons}
 use Rattle.space.proofs.Listed.{total-gaps}
 use Rattle.space.proofs.Pairs.{regions-none, regions-split, regions-snoc, regions-more}
@@ -25,7 +25,8 @@ total_size-append (x ∷ xs) ys = omega (arith, total_size-cons x xs, total_size
 sequence-total : (a e : ℕ) (xs : List DiscRegion) → is_in_sequence a e xs ≡ true → total_size xs ≤ e
 sequence-total a e xs s = omega (arith, total-gaps a e xs s)
 
-sequence-behind : (a e : ℕ) (ps : List DiscRegion) (r : DiscRegion) (rs : List DiscRegion) → is_in_sequence a e (ps ++ r ∷ rs) ≡ true → is_in_sequence (end_of r) e rs ≡ true
+-- of regions in order those behind one begin at its end or behind
+pub sequence-behind : (a e : ℕ) (ps : List DiscRegion) (r : DiscRegion) (rs : List DiscRegion) → is_in_sequence a e (ps ++ r ∷ rs) ≡ true → is_in_sequence (end_of r) e rs ≡ true
 sequence-behind a e [] r rs s = sequence-rest a e r rs s
 sequence-behind a e (p ∷ ps) r rs s = sequence-behind (end_of p) e ps r rs (sequence-rest a e p (ps ++ r ∷ rs) s)
 
@@ -123,9 +124,6 @@ module _ (t : Search) (x : ℕ) (w : List ℕ) (m i j between : ℕ) (a : AreMar
     full-here : AllNonempty (r ∷ rest')
     full-here = rw is at a.full
 
-    pub region-ends : end_of r ≤ t.disc_end
-    region-ends = sequence-le (end_of r) t.disc_end rest' (sequence-rest x t.disc_end r rest' order-here)
-
     passed-first : i < j → passed ≡ r ∷ regions_in w (i + 1) (j - (i + 1))
     passed-first h = regions-more w i j h
 
@@ -175,12 +173,6 @@ module _ (t : Search) (x : ℕ) (w : List ℕ) (m i j between : ℕ) (a : AreMar
           sizes = rw (regions-none w (i + 1) (i + 1 - (i + 1)) n) (unfold total_size in (sym none));
           started = rw (regions-none w (i + 1) (i + 1 - (i + 1)) n) tt;
         }
-
-    -- one way or the other, both marks are behind it
-    pub passed-region : AreMarks t (end_of r) w m (i + 1) (if between == 0 then i + 1 else j) (if between == 0 then 0 else between - r.size)
-    passed-region =
-        ⊎_elim (λ h. rw (ne_eqb between 0 (λ e. omega arith)) (left-behind (λ e. omega arith)))
-        (λ h. let z : between ≡ 0 = omega arith in rw (eq-eqb between 0 z) (rw z at (passed-with z))) (lt-or-le 0 between)
 
   -- ---- the second mark passes a region
 

@@ -17,7 +17,7 @@ use Rattle.clearing.specs.Inner.Marks.{Search, has_room, started_size, run_behin
 use Rattle.clearing.specs.Inner.Stretches.{AreHeld, by_limit}
 use Rattle.clearing.proofs.Laws.InOrder.{started-more, started-less}
 use Rattle.clearing.proofs.Laws.Touched.{apart-sides, shared}
-use Rattle.clearing.proofs.Marks.{started-behind}
+use Rattle.clearing.proofs.Marks.{sequence-behind, started-behind}
 use Rattle.clearing.proofs.Stretches.{none-touched, held-from}
 
 never : (b : Bool) → (b && false) ≡ false
@@ -30,11 +30,6 @@ unfolding is_in_sequence
 sequence-to a e [] p post s = le-leb a p.offset (sequence-first a e p post s)
 sequence-to a e (r ∷ pre) p post s =
     and_both _ _ (le-leb a r.offset (sequence-first a e r (pre ++ p ∷ post) s)) (sequence-to (end_of r) e pre p post (sequence-rest a e r (pre ++ p ∷ post) s))
-
--- from one region on
-sequence-from : (a e : ℕ) (pre : List DiscRegion) (p : DiscRegion) (post : List DiscRegion) → is_in_sequence a e (pre ++ p ∷ post) ≡ true → is_in_sequence (end_of p) e post ≡ true
-sequence-from a e [] p post s = sequence-rest a e p post s
-sequence-from a e (r ∷ pre) p post s = sequence-from (end_of r) e pre p post (sequence-rest a e r (pre ++ p ∷ post) s)
 
 -- before a region from y on, the same start before y
 started-before : (y a e : ℕ) (pre : List DiscRegion) (p : DiscRegion) (post : List DiscRegion) → y ≤ p.offset → is_in_sequence a e (pre ++ p ∷ post) ≡ true → started_size y (pre ++ p ∷ post) ≡ started_size y pre
@@ -69,7 +64,7 @@ module _ (n e : ℕ) (some : 0 < n) (p : DiscRegion) (full : 0 < p.size) where
     starts-by = sequence-le (end_of r) p.offset pre (sequence-to (end_of r) e pre p post s)
 
     ends-by : end_of p ≤ e
-    ends-by = sequence-le (end_of p) e post (sequence-from (end_of r) e pre p post s)
+    ends-by = sequence-le (end_of p) e post (sequence-behind (end_of r) e pre p post s)
 
     room-same : has_room t (end_of r) ≡ has_room (by_limit n p.offset) (end_of r)
     room-same =
@@ -159,7 +154,7 @@ module _ (p : DiscRegion) (w : List ℕ) (m e : ℕ) (o : AreHeld w 0 m e) where
     order-whole = rw whole at o.order
 
     starts-on : p.offset ≤ e
-    starts-on = omega (arith, sequence-le (end_of p) e (regions_in w (k + 1) (m - (k + 1))) (sequence-from 0 e (regions_in w 0 k) p (regions_in w (k + 1) (m - (k + 1))) order-whole))
+    starts-on = omega (arith, sequence-le (end_of p) e (regions_in w (k + 1) (m - (k + 1))) (sequence-behind 0 e (regions_in w 0 k) p (regions_in w (k + 1) (m - (k + 1))) order-whole))
 
     pub split-at : IsSplit p w m e k
     split-at =

@@ -277,10 +277,3 @@ module _ (n e : ℕ) (w : List ℕ) (m : ℕ) where
 
         pub looking-on : (region_at w (k + 1)).offset < end_of (region_at w k) + n → IsLooking end told (k + 1)
         looking-on h = (free-at _ next-tells).1 (lt-leb _ _ h)
-
-    pub looking-end : end ≤ k → false ≡ told
-    looking-end h = go (runs_from k) (omega (arith, i.ends)) i.any
-      where
-        go : (runs : List Run) → length runs ≡ 0 → list_any (λ (run : Run). run.cost == 0) runs ≡ told → false ≡ told
-        go [] z a = a
-        go (run ∷ runs) z a = absurd (omega (arith, z))

@@ -40,11 +40,6 @@ module _ (n e : ℕ) (w : List ℕ) (m : ℕ) where
       }
 
   module _ (end : ℕ) (told : Run) (marks : Marks) (best : Run) (i : IsTrying end told marks best) where
-    pub trying-end : end ≤ marks.to_end → best ≡ told
-    trying-end h =
-        let z : end - marks.to_end ≡ 0 = omega arith in
-        rw z at i.cheapest
-
     module _ (more : marks.to_end < end) where
       abbrev r : DiscRegion
       r = region_at w marks.to_end
