@@ -1,4 +1,4 @@
-// A stretch of the used regions and the runs in it: how many there are, the cheapest of the first of them, and
+// A stretch of the used regions and the runs in it: how many there are, the cheapest of the first ones, and
 // whether one of the others costs nothing.
 ghost use Rattle.std.specs.Prelude.{◌≡◌, ◌+◌, ◌*◌, ◌<◌, ◌≤◌, ◌-◌, ◌==◌, length, take, drop};
 ghost use Rattle.std.specs.List.{list_any};
@@ -115,7 +115,8 @@ impl<'a> Stretch<'a> {
         ensures offset { result.offset ≡ marks.offset }
         ensures to_end { result.to_end ≡ marks.to_end }
         ensures marks { StandIn self.entry size result }
-        ensures cost { result.between ≡ started_size (marks.offset + size) (regions_in self.entry.words.now marks.to_end (self.entry.to - marks.to_end)) }
+        ensures cost { result.between ≡ started_size (marks.offset + size)
+            (regions_in self.entry.words.now marks.to_end (self.entry.to - marks.to_end)) }
     {
         let end = marks.offset + size;
         let mut to_start = marks.to_start;
@@ -137,7 +138,7 @@ impl<'a> Stretch<'a> {
     }
 
     /// The cheapest of one and the first `tried` runs, the first of equals.
-    // Kept: the cost itself is asked for only where it can be less, and none is behind one that costs nothing,
+    // Kept: the cost itself is asked for only where it can be less, none behind one that costs nothing,
     // since no processor foresees how many regions the second mark passes (S). A function of its own in the
     // machine's code too, so that its loop has the registers to itself (S).
     #[inline(never)]
