@@ -40,6 +40,8 @@
  *                            program and one behind each file
  *     counter_free_clusters  COUNTER_CLUSTER_WORDS * (n + 1) words
  *
+ * The list of counter_small_tables is sized by the number that the call is given, and has bytes.
+ *
  * Every call that takes words opens the image first, and refuses what opening refuses (counter_fault tells it instead, and counter_report
  * writes it; counter_sheet reads its sheet before; counter_master asks nothing of what the image holds). Its tests, in this order: the
  * header's fields (1), Wii magic (2), GameCube magic (3); 4; the root (5, 6, 7); more entries than COUNTER_MOST_ENTRIES (9); each further
@@ -81,22 +83,25 @@ extern "C" {
 #define COUNTER_SPAN_SLOTS 2
 #define COUNTER_SHEET_HEADER_BYTES 16
 #define COUNTER_SHEET_LINE_BYTES 16
+#define COUNTER_SMALL_TABLE_BYTES(entries) (14 * (entries) - 2) /* of each table of counter_small_tables */
 
 /* ---- whose a used region is, in the slots of counter_fault: a file's by its number, from 1 on */
 
 #define COUNTER_OF_TABLE 0 /* the bytes from 0 up to the table's end */
 #define COUNTER_OF_PROGRAM UINT32_MAX
 
-/* ---- limits of an image that opens and of what an edit makes; of a path, and of a sheet */
+/* ---- limits of an image that opens and of what an edit makes; of a path, of a sheet, and of the small tables */
 
 #define COUNTER_MOST_ENTRIES 16384 /* with the root */
 #define COUNTER_MOST_TEXT 1048576  /* bytes of names, each with a zero byte behind it */
 #define COUNTER_MOST_LEVELS 64     /* directories below the root, one in another */
 #define COUNTER_MOST_PATH 1024     /* bytes of a path that is passed in, or that a sheet's line has */
 #define COUNTER_MOST_LINES 1024    /* lines of an edit sheet */
+#define COUNTER_MOST_SMALL 8       /* entries, with the root, of counter_small_tables */
 #define COUNTER_MOST_REGIONS (COUNTER_MOST_ENTRIES + 1)
 #define COUNTER_MOST_WORDS (4 * (COUNTER_MOST_ENTRIES + 2))
 #define COUNTER_MOST_TABLE (12 * COUNTER_MOST_ENTRIES + COUNTER_MOST_TEXT)
+#define COUNTER_MOST_SMALL_TABLES 941380 /* bytes: 8,558 tables of COUNTER_MOST_SMALL entries */
 
 /* ---- numbers */
 
@@ -418,6 +423,22 @@ uint32_t counter_sheet(uint8_t *image, size_t image_len, uint32_t *words, size_t
  * number other than 0 the image is as it was. */
 uint32_t counter_master(uint8_t *image, size_t image_len, uint32_t *words, size_t words_len, uint8_t *bytes, size_t bytes_len,
     const uint8_t game_code[4], uint32_t disc_end, const uint32_t *sizes, size_t sizes_len, const uint8_t *paths, size_t paths_len);
+
+/* ---- every small table, with no image */
+
+/* Writes a table for each shape of so many entries, the root among them, into the front of list, one behind the other. A shape is which of
+ * the entries are directories, and the next of each: behind itself, at most `entries`, and at most that of the directory around it. Each is
+ * there once, by the entries from 1 on: a file before a directory, then the smaller next first. In its table files have offset and size 0,
+ * and entry k is named by the k-th lower-case letter; put at the FST offset of an image that has a good header, no program and room for it,
+ * with the FST size set, it opens. It takes no words.
+ *
+ *     entries    1    2    3      4      5       6        7        8
+ *     tables     1    2    6     22     90     394    1,806    8,558    COUNTER_SMALL_TABLE_BYTES(entries) bytes each
+ *     bytes     12   52  240  1,188  6,120  32,308  173,376  941,380    together: the length that list must have
+ *
+ * 9 if `entries` is not 1 to COUNTER_MOST_SMALL, or if list has fewer bytes, and nothing is written to it; bytes behind the last table stay.
+ * COUNTER_MOST_SMALL_TABLES are enough. answer[1]: how many tables. */
+uint32_t counter_small_tables(uint32_t entries, uint8_t *list, size_t list_len, uint32_t answer[1]);
 
 #ifdef __cplusplus
 }

@@ -49,7 +49,7 @@ impl Value for DiscRegion {
     ghost words = { region_words };
 }
 
-// A size, an entry's number, how many regions, or the length of a table.
+// A size, an entry's number, how many regions or tables, or the length of a table.
 impl Value for u32 {
     ghost words = { one_word };
 }

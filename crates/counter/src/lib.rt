@@ -12,6 +12,7 @@ mod reading;
 mod regions;
 mod runs;
 mod sheets;
+mod tables;
 mod text;
 mod three_calls;
 mod windows;
@@ -33,6 +34,7 @@ pub use regions::{
 };
 pub use runs::counter_clear;
 pub use sheets::counter_sheet;
+pub use tables::counter_small_tables;
 pub use text::{counter_list, counter_report};
 pub use three_calls::{
     counter_move_copy, counter_move_table, counter_resize_copy, counter_resize_table, counter_zero,

@@ -33,6 +33,8 @@ pub mod SheetSteps
 pub mod Sheets
 pub mod SheetsAfter
 pub mod SheetsApplied
+pub mod SmallTables
+pub mod SmallTablesApplied
 pub mod Steps
 pub mod StepsApplied
 pub mod Teams

@@ -37,6 +37,7 @@ mod record;
 mod sheet;
 mod sides;
 mod steps;
+mod tables;
 
 fn main() {
     let wanted: Vec<String> = std::env::args().skip(1).collect();
@@ -88,6 +89,9 @@ fn main() {
     }
     if runs("master") {
         master::run(&mut misses);
+    }
+    if runs("tables") {
+        tables::run(&mut misses);
     }
     if runs("giant") {
         giant::run(&mut misses);

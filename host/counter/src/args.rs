@@ -166,6 +166,16 @@ const FOLDER: Flag = Flag {
     value: Some(("DIR", Value::File)),
     words: "the files: those of the folder DIR and of all folders in it, each with its bytes",
 };
+const SMALL: Operand = needed(
+    "ENTRIES",
+    Value::Number,
+    "how many entries each table has, the root among them: 1 to 8",
+);
+const INTO: Flag = Flag {
+    name: "--into",
+    value: Some(("DIR", Value::New)),
+    words: "the folder for the masters, which is made if it is not there; nothing in it is overwritten",
+};
 const EMPTY: Flag = Flag {
     name: "--empty",
     value: None,
@@ -607,6 +617,16 @@ pub const FORMS: &[Form] = &[
             "counter new filled.iso --size 2M --code GCLE --from-dir parts",
         ],
     },
+    Form {
+        name: "tables",
+        group: Group::Make,
+        operands: &[&SMALL],
+        flags: &[&INTO, &JSON],
+        words: "makes masters for tests: every table of so many entries, each shape once, in a small master of its \
+                own",
+        more: SMALL_TABLES,
+        examples: &["counter tables 3 --into small", "counter tree small/5.iso"],
+    },
 ];
 
 const FREE: &str = "\
@@ -790,6 +810,20 @@ waits until OUT is there. After SIGKILL or a power cut counter-new.N may be, whi
 Free space and the files of a LIST take no room on the disk; the files of DIR do, their zeros too. There is no program \
 (main.dol) on it, and no maker code: wit takes it for a disc only with two capitals or digits at offset 4.";
 
+const SMALL_TABLES: &str = "\
+A shape says which of a table's entries are folders, and where each of these ends. Each shape that opens is there once: \
+1, 2, 6, 22, 90, 394, 1,806 or 8,558 tables of 1 to 8 entries, the root among them; another number is refused (9). They \
+stand in the order of their entries, from the first behind the root on: a file before a folder, and of two folders the \
+one that ends first. Files are empty, and the entries are called a, b, c and so on.
+The masters are 1.iso, 2.iso and so on in that order, with as many digits as the last one has: 0001.iso to 8558.iso. \
+Each is the small master of docs/FORMAT.md, 8 KiB, with the table put over its own at 0x440 and the table's size in \
+the header, and nothing else changed. A line for each has its paths, a folder's with / at the end, and the root's only \
+where that is alone.
+DIR may hold other files. If one of the names is there, or a journal or a clip beside it, that is told, and nothing is \
+written (73). An error, Ctrl-C, SIGHUP, SIGQUIT and SIGTERM leave nothing, nor a DIR that was made; every other signal \
+but SIGKILL waits for the end. The masters are not synced: after SIGKILL or a power cut some may be there, or be cut \
+short. Take them away, and make them again.";
+
 // The arguments ---------------------------------------------------------------------------
 
 pub struct Args {
@@ -825,6 +859,8 @@ pub struct Args {
     pub given: Vec<PathBuf>,
     /// The other image, and behind a `:` a path in it; or the list of a new master's files.
     pub from: Option<PathBuf>,
+    /// The folder for the masters of small tables.
+    pub into: Option<PathBuf>,
     /// The text that a sheet is made of.
     pub compile: Option<PathBuf>,
     /// The sheet of the moves that clear a run.
@@ -876,7 +912,7 @@ impl Args {
 
     /// Whether the built-in small master does.
     pub fn shows_built_in(&self) -> bool {
-        self.image.is_none() && self.compile.is_none() && !self.show
+        self.form.has_image() && self.image.is_none() && self.compile.is_none() && !self.show
     }
 
     /// The files and folders that it is to make.
@@ -884,7 +920,8 @@ impl Args {
         let behind = self.form.operands.iter().skip(1);
         let new = behind.zip(&self.operands).filter(|(operand, _)| operand.value == Value::New);
         let image = self.image.as_ref().filter(|_| self.form.group == Group::Make);
-        let options = [&self.out, &self.map, &self.sheet].into_iter().flatten().chain(image);
+        let options = [&self.out, &self.map, &self.sheet, &self.into];
+        let options = options.into_iter().flatten().chain(image);
         let options = options.map(PathBuf::as_path);
         let sheet = self.operands.first().filter(|_| self.compile.is_some()).map(Path::new);
         new.map(|(_, path)| Path::new(path)).chain(options).chain(sheet).collect()
@@ -922,6 +959,7 @@ impl Args {
             demo: false,
             given: Vec::new(),
             from: None,
+            into: None,
             compile: None,
             sheet: None,
             clear: None,
@@ -1008,6 +1046,8 @@ impl Args {
                 self.first = Some(count_given(given("the number of a line")?)?);
             }
             "--from" => self.from = Some(file()?),
+            "--into" if self.into.is_some() => return Err(twice()),
+            "--into" => self.into = Some(given("the name of a folder")?.into()),
             "--size" if self.size.is_some() => return Err(twice()),
             "--size" => self.size = Some(number_given(given("a number of bytes")?)?),
             "--clear" if self.clear.is_some() => return Err(twice()),
@@ -1064,7 +1104,7 @@ impl Args {
         if got < least || got > most || (got == 0 && !bare) {
             return Err(Failure::usage(format!("usage: {}", self.form.usages().join(", or "))));
         }
-        if !self.is_without_image() && got > 0 {
+        if self.form.has_image() && !self.is_without_image() && got > 0 {
             self.image = Some(PathBuf::from(self.operands.remove(0)));
         }
         if self.takes_all() {
@@ -1091,6 +1131,11 @@ impl Form {
 
     pub fn has(&self, flag: &str) -> bool {
         self.flags.iter().any(|known| known.name == flag)
+    }
+
+    /// Whether its operands begin with an image.
+    fn has_image(&self) -> bool {
+        self.operands.first().is_some_and(|operand| operand.value != Value::Number)
     }
 
     /// Help is wanted, and nothing else.
@@ -1122,6 +1167,7 @@ impl Form {
                 ("record", "IMAGE") => "IMAGE|FILE",
                 ("fill", "CLIP") => "CLIP|--from OTHER[:PATH]",
                 ("new", "OUT") => "OUT --size SIZE --code GAME --from LIST|--from-dir DIR",
+                ("tables", "ENTRIES") => "ENTRIES --into DIR",
                 (_, name) => name,
             };
             out.push_str(&match operand.needed {
@@ -1134,7 +1180,9 @@ impl Form {
             "--all" => self.name == "extract",
             "--size" => self.name == "new",
             "--from" => self.name != "sheet",
-            name => ["--demo", "--from-dir", "--code", "--compile", "--show"].contains(&name),
+            name => {
+                ["--demo", "--from-dir", "--into", "--code", "--compile", "--show"].contains(&name)
+            }
         };
         for flag in self.flags.iter().filter(|flag| !told(flag.name)) {
             out.push_str(&match flag.value {

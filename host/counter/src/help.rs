@@ -302,6 +302,11 @@ const FIELDS: &[(&str, &str)] = &[
         "status out dry_run written size game_code fst_size used free largest_free files[path path_bytes offset \
          size] left_out[folder] notes[...]; left_out: folders of DIR that hold no file",
     ),
+    (
+        "tables",
+        "status into entries fst_size tables masters[file file_bytes table[ENTRY]]; entries: of each table, the root \
+         among them; tables: how many",
+    ),
 ];
 
 const COMPARED: &str = "status before after manifest manifest_sum before_sum after_sum passed cut[name] \
@@ -331,7 +336,7 @@ fn json(forms: &[Form]) -> String {
         let line = wrapped(fields, 11, 11);
         let _ = writeln!(out, "  {name:<8} {}", line.trim_start());
     }
-    if forms.iter().any(|form| ["list", "tree", "find", "compare"].contains(&form.name)) {
+    if forms.iter().any(|form| ["list", "tree", "find", "compare", "tables"].contains(&form.name)) {
         out.push_str("  ENTRY    number kind parent path path_bytes, and offset size (kind file) or next (kind directory)\n");
     }
     if forms.iter().any(|form| form.has("--record") || form.name == "recover") {
@@ -497,15 +502,17 @@ fn statuses() -> String {
          \x20     new: no such DIR, or a file in its place, or a link or a special file in it\n\
          \x20 70  the library answered what it never should\n\
          \x20 73  an output, a journal, a clip that is kept or a record cannot be created, or is there already;\n\
-         \x20     extract: two entries would be one file, or a name has too many bytes for a file\n\
+         \x20     extract: two entries would be one file, or a name has too many bytes for a file;\n\
+         \x20     tables: a name in DIR that one of the masters has, or a journal or a clip beside it\n\
          \x20 74  input/output error; the disk is full\n\
          \x20 75  another program is using the image, or the record's FILE\n\
          \x20 77  not allowed: a read-only file or disk, or no permission\n\
          \x20     64 to 75 and 77: header, table and files are as they were; with 74 free space may hold\n\
-         \x20     part of a copy; `new` leaves nothing\n\
+         \x20     part of a copy; `new` and `tables` leave nothing\n\
          \x20     sheet: where a line is told, all this is of that line; those before it are done and stay,\n\
          \x20     and so is one that was cut before and is told to be finished now\n\
-         \x20 76  the edit, or the new image, is written and synced, but its answer could not be printed\n\
+         \x20 76  the edit, or the new image, is written and synced, but its answer could not be printed;\n\
+         \x20     tables: the same of masters that are made\n\
          \x20 78  an edit was cut: the image may hold a part of it, and its journal is there;\n\
          \x20     `counter recover IMAGE` finishes the edit. Or only its record is not written yet: the\n\
          \x20     last line says so. compare, report: nothing differs without leave, but an edit was cut of an\n\

@@ -59,6 +59,7 @@ mod script;
 mod sha256;
 mod sheet;
 mod signals;
+mod small;
 mod stored;
 mod sum;
 mod tables;
@@ -172,6 +173,7 @@ fn run(args: Args) -> Outcome<u8> {
         "report" => return report::report(&args),
         "recover" => recover::recover(&args)?,
         "new" => make::new(&args)?,
+        "tables" => small::tables(&args)?,
         "sheet" => run::sheet(&args)?,
         _ => edit::edit(&args)?,
     }

@@ -6,9 +6,8 @@ use crate::account;
 use crate::args::Args;
 use crate::disc::{Disc, Kind, Node, table_end};
 use crate::disk::{self, On};
-use crate::failure::{CANNOT_CREATE, DATA, Failure, INPUT_OUTPUT, INTERNAL, Measures, Outcome};
+use crate::failure::{DATA, Failure, INPUT_OUTPUT, INTERNAL, Measures, Outcome};
 use crate::image::{Desk, Image, cannot_open};
-use crate::journal;
 use crate::json::{self, Json};
 use crate::names::{self, shown};
 use crate::os::{self, Access, Mapping};
@@ -16,7 +15,7 @@ use crate::out::say;
 use crate::progress::Progress;
 use crate::recover::finish_as;
 use crate::room;
-use crate::save::vacant;
+use crate::save::{not_made, vacant_image};
 use crate::signals;
 use crate::text::{counted, grouped, human};
 use crate::told::{dry, of_new};
@@ -60,12 +59,7 @@ pub fn new(args: &Args) -> Outcome<()> {
     let (code, filled) = (game_code(code)?, args.folder.is_some());
     signals::begin_making();
     let place = resolved(out)?;
-    // A journal by that name would be taken for one of the new image; and no edit could make one whose name is
-    // too long.
-    let beside = [journal::beside, journal::early_beside, journal::clip_beside];
-    for path in [place.clone()].into_iter().chain(beside.map(|beside| beside(&place))) {
-        may_be_made(&path)?;
-    }
+    vacant_image(&place)?;
     let files = match (&args.from, &args.folder) {
         (Some(list), None) => Files::listed(list)?,
         (None, Some(folder)) => Files::found(folder, &place)?,
@@ -115,15 +109,6 @@ fn resolved(out: &Path) -> Outcome<PathBuf> {
     let folder = fs::canonicalize(OsStr::from_bytes(folder)).map_err(|e| not_made(out, &e))?;
     os::may_write(&folder).map_err(|e| not_made(out, &e))?;
     Ok(folder.join(OsStr::from_bytes(name)))
-}
-
-/// That nothing has the name, and that something can.
-fn may_be_made(path: &Path) -> Outcome<()> {
-    vacant(path)?;
-    match fs::symlink_metadata(path) {
-        Err(e) if e.kind() != ErrorKind::NotFound => Err(not_made(path, &e)),
-        _ => Ok(()),
-    }
 }
 
 /// The new image in memory: header and table are in it, and what is behind them is zero.
@@ -285,10 +270,6 @@ fn put_in_place(early: &Path, out: &Path) -> io::Result<()> {
     disk::sync_folder(out).inspect_err(|_| {
         let _ = fs::remove_file(out);
     })
-}
-
-fn not_made(out: &Path, why: &io::Error) -> Failure {
-    Failure::file(if disk::is_full(why) { INPUT_OUTPUT } else { CANNOT_CREATE }, out, why)
 }
 
 /// Header and table, then the files.

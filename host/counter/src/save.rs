@@ -1,7 +1,9 @@
 //! New files: what cannot be finished is taken away again, and nothing is overwritten.
 
+use crate::disk;
 use crate::failure::{CANNOT_CREATE, Failure, INPUT_OUTPUT, Outcome};
 use crate::image::Image;
+use crate::journal;
 use crate::os;
 use crate::progress::Progress;
 use counter_sys::Window;
@@ -46,6 +48,25 @@ pub fn vacant(path: &Path) -> Outcome<()> {
         Ok(_) => Err(Failure::file(CANNOT_CREATE, path, &io::ErrorKind::AlreadyExists.into())),
         Err(_) => Ok(()),
     }
+}
+
+/// The same of a new image, and that something can have its name and those beside it: a journal there would
+/// be taken for one of it, and no edit could make one whose name is too long.
+pub fn vacant_image(path: &Path) -> Outcome<()> {
+    let beside = [journal::beside, journal::early_beside, journal::clip_beside];
+    for path in [path.to_path_buf()].into_iter().chain(beside.map(|beside| beside(path))) {
+        vacant(&path)?;
+        match fs::symlink_metadata(&path) {
+            Err(e) if e.kind() != io::ErrorKind::NotFound => return Err(not_made(&path, &e)),
+            _ => {}
+        }
+    }
+    Ok(())
+}
+
+/// Why there is no new file.
+pub fn not_made(path: &Path, why: &io::Error) -> Failure {
+    Failure::file(if disk::is_full(why) { INPUT_OUTPUT } else { CANNOT_CREATE }, path, why)
 }
 
 /// Writes bytes to a new file.

@@ -69,7 +69,7 @@ const GIVEN_UP: u8 = 3;
 static CAUGHT: AtomicI32 = AtomicI32::new(0);
 static STAGE: AtomicU8 = AtomicU8::new(READING);
 static HOLDING: AtomicBool = AtomicBool::new(false);
-/// It is a new image that is made.
+/// New images are made.
 static MAKING: AtomicBool = AtomicBool::new(false);
 /// Signals that whoever started the program had blocked.
 static BLOCKED: OnceLock<u64> = OnceLock::new();
@@ -145,11 +145,14 @@ fn noted(number: i32) {
     let line = if io::stderr().is_terminal() { "\r\x1b[K" } else { "" };
     let name = called(number);
     match (free, seconds_left()) {
+        (Ok(_) | Err(GIVEN_UP), _) if is_making() => {
+            tell(format_args!("{line}counter: {name}: what was made is taken away\n"))
+        }
         (Ok(_) | Err(GIVEN_UP), _) => {
             tell(format_args!("{line}counter: {name}: the edit is given up\n"))
         }
         _ if is_making() => {
-            tell(format_args!("{line}counter: {name}: the new image is finished first\n"))
+            tell(format_args!("{line}counter: {name}: what is made is finished first\n"))
         }
         (_, 0) => tell(format_args!("{line}counter: {name}: the edit is finished first\n")),
         (_, left) => tell(format_args!(
@@ -260,7 +263,7 @@ pub fn begin_writing(free_space_first: bool) {
     let_others_wait();
 }
 
-/// From here on a new image is made, and no image is touched.
+/// From here on new images are made, and no image is touched.
 pub fn begin_making() {
     MAKING.store(true, Ordering::SeqCst);
 }

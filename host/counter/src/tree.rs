@@ -96,16 +96,21 @@ pub fn free_json(free: &[Region]) -> Json {
     Json::List(free.iter().map(|region| Json::Object(region_fields(region))).collect())
 }
 
-fn list_json(disc: &Disc) -> Json {
-    let entries = disc.nodes.iter().map(|node| {
+/// Entries in JSON, with their paths.
+pub fn entries_json(nodes: &[Node]) -> Json {
+    let entries = nodes.iter().map(|node| {
         let mut fields = node_fields(node);
         fields.extend(json::path(&node.path));
         Json::Object(fields)
     });
+    Json::List(entries.collect())
+}
+
+fn list_json(disc: &Disc) -> Json {
     Json::answer(vec![
         ("total", disc.opened.disc_end.into()),
         ("used", disc.opened.used.into()),
-        ("entries", Json::List(entries.collect())),
+        ("entries", entries_json(&disc.nodes)),
         ("free", free_json(&disc.free)),
     ])
 }

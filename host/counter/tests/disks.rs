@@ -1,6 +1,7 @@
 //! Disks that are nearly full: ext4, XFS with a reflink copy, and btrfs on loop devices, with more and
 //! more room left. Whatever the status, the image is as it was, or as the edit makes it, or `recover`
-//! makes it so once there is room; a new image is whole, or there is none. Needs leave to mount, and the file system's mkfs; says so if not.
+//! makes it so once there is room; a new image is whole, or there is none, and so is a set of small tables.
+//! Needs leave to mount, and the file system's mkfs; says so if not.
 
 mod support;
 
@@ -214,6 +215,67 @@ fn a_new_master_on_a_nearly_full_ext4_is_whole_or_none() {
                 assert!(words[0] != "8000", "{line}");
                 assert!(words[0].ends_with('!') || dry == "74", "{line}");
             }
+            _ => panic!("{line}: {}", run.err),
+        }
+    }
+}
+
+// A set of small tables -------------------------------------------------------------------
+
+/// $1 folder with the folder `small`, a set of 394, $2 program; then KiB left, or `names` for a disk with
+/// room for few files. Prints a line for each: left, status, what there is of the set.
+const SMALL: &str = r#"set -e
+dir=$1; counter=$2; shift 2
+mkdir "$dir/ext4"
+for left; do
+    truncate -s 32M "$dir/ext4.img"
+    case $left in
+        names) mkfs.ext4 -q -m 0 -F -N 128 "$dir/ext4.img" ;;
+        *) mkfs.ext4 -q -m 0 -F "$dir/ext4.img" ;;
+    esac
+    mount -o loop "$dir/ext4.img" "$dir/ext4"
+    cd "$dir/ext4"
+    if [ "$left" != names ]; then
+        fill=$(($(df -k --output=avail . | tail -1) - left))
+        until [ "$fill" -le 0 ] || fallocate -l "${fill}K" filler 2>/dev/null; do
+            fill=$((fill - 512))
+        done
+    fi
+    sync
+    status=0
+    "$counter" tables 6 --into small > "$dir/said" 2>&1 || status=$?
+    tail -n 1 "$dir/said" | sed "s/^/$left: /" >&2
+    found=none
+    if [ -e small ]; then
+        found=part
+        if diff -rq small "$dir/small" >&2; then found=whole; fi
+    fi
+    echo "$left $status $found"
+    cd /; umount "$dir/ext4"
+    rm "$dir/ext4.img"
+done
+"#;
+
+#[test]
+fn a_set_of_small_tables_on_a_nearly_full_ext4_is_whole_or_none() {
+    let temp = Temp::new();
+    let set = temp.at("small");
+    assert_eq!(run(&["tables", "6", "--into", set.to_str().unwrap()]).status, 0);
+    let left = ["0", "4", "64", "1000", "3000", "8000", "names"];
+    let mut command = Command::new("unshare");
+    command.args(["-m", "sh", "-c", SMALL, "sh"]).arg(temp.at(""));
+    command.arg(env!("CARGO_BIN_EXE_counter")).args(left);
+    let Some(run) = tried(&mut command, "ext4") else {
+        return;
+    };
+    println!("left, status, set\n{}{}", run.out, run.err);
+    assert_eq!(run.status, 0, "{}{}", run.out, run.err);
+    assert_eq!(run.out.lines().count(), left.len());
+    for line in run.out.lines() {
+        let words: Vec<&str> = line.split(' ').collect();
+        match words[1..] {
+            ["0", "whole"] => assert_eq!(words[0], "8000", "{line}"),
+            ["74", "none"] => assert!(words[0] != "8000", "{line}"),
             _ => panic!("{line}: {}", run.err),
         }
     }

@@ -8,10 +8,10 @@ use std::path::Path;
 use std::process::{Command, Stdio};
 use support::*;
 
-const COMMANDS: [&str; 26] = [
+const COMMANDS: [&str; 27] = [
     "info", "list", "tree", "free", "find", "place", "clear", "record", "cat", "extract", "dol",
     "map", "check", "compare", "hash", "report", "mkdir", "add", "move", "resize", "fill",
-    "rewrite", "maximum", "sheet", "recover", "new",
+    "rewrite", "maximum", "sheet", "recover", "new", "tables",
 ];
 
 /// A folder with the files that the examples name.
@@ -105,6 +105,7 @@ fn help_comes_in_every_way_and_is_about_its_command_alone() {
         "--budget",
         "--sheet",
         "--clear",
+        "--into",
     ];
     for command in COMMANDS {
         let help = run(&["help", command]).out;
@@ -259,6 +260,10 @@ fn bash_completes_commands_options_files_and_paths() {
     assert_eq!(offered(&["counter", "clear", "disc.iso", "1M", "--sheet", "da"]), ["day.txt"]);
     assert_eq!(offered(&["counter", "clear", "--budget", "3", "dis"]), ["disc.iso"]);
     assert_eq!(offered(&["counter", "map", "disc.iso", "--cl"]), ["--clear"]);
+    assert_eq!(offered(&["counter", "tables", "3", "--in"]), ["--into"]);
+    assert_eq!(offered(&["counter", "tables", "3", "--into", "pa"]), ["parts"]);
+    // A number is no file.
+    assert_eq!(offered(&["counter", "tables", ""]), [""; 0]);
     assert_eq!(offered(&["counter", "help", "saf"]), ["safety"]);
 }
 

@@ -959,7 +959,7 @@ fn help_documents_commands_statuses_and_safety() {
     let commands = [
         "info", "list", "tree", "free", "find", "place", "clear", "check", "extract", "cat", "dol",
         "map", "compare", "hash", "report", "mkdir", "add", "move", "resize", "fill", "rewrite",
-        "recover", "new",
+        "recover", "new", "tables",
     ];
     for command in commands {
         assert!(run_help.out.contains(&format!("counter {command} ")), "{command}");
@@ -1337,6 +1337,7 @@ fn a_manifest_goes_to_a_new_file_and_never_over_another() {
             on("extract", &image, &["opening.bnr", name]),
             on("extract", &image, &["--all", name]),
             run(&["map", "--demo", name]),
+            run(&["tables", "1", "--into", name]),
         ];
         for run in runs {
             assert_eq!(run.status, 64, "{}", run.err);

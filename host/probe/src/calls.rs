@@ -3,7 +3,7 @@
 //! past the answer, and on a refusal all slots, lists and the record, as they were; after an accepted
 //! edit the record as the image's totals have moved, and in it the edit's own team alone; of a part of an
 //! edit its own bytes alone, and refused as the edit is; behind the disc end of a new master all as it was; of a sheet
-//! that is refused at a line what its lines before leave.
+//! that is refused at a line what its lines before leave; the small tables in a list, which is all that is lent.
 
 use crate::language::{Answer, Stop};
 use crate::zeros::Zeros;
@@ -22,6 +22,12 @@ const SPARE: usize = 3;
 /// (16,385 regions of three words), so a longer list gives the same, and memory cannot hold 2^64.
 const LONGEST_LIST: usize = 1 << 20;
 
+/// The same in bytes, for the small tables: those of eight entries take 941,380, of nine it would be 5,156,664.
+const LONGEST_BYTES: usize = 1 << 23;
+
+/// As many are long enough.
+const ENOUGH_BYTES: usize = 1 << 20;
+
 /// The most entries of an image that opens, with the root.
 const MOST_ENTRIES: usize = 16_384;
 
@@ -30,7 +36,8 @@ pub struct Lender {
     before: Vec<u8>,
     words: Guarded<u32>,
     bytes: Guarded<u8>,
-    /// Words of the list that the free regions are written to; none: long enough.
+    /// Words of the list that the free regions are written to, or bytes of that of the small tables; none:
+    /// long enough.
     list: Option<usize>,
     /// The record in use: every edit takes it, and what comes back is kept.
     pub record: Option<Record>,
@@ -234,9 +241,10 @@ impl Lender {
         self.bytes = Guarded::new(bytes);
     }
 
-    /// From here on `lent_regions` lends a list of `len` words; none: one that is long enough.
+    /// From here on `lent_regions` and `lent_tables` lend a list of `len` elements; none: one that is long
+    /// enough.
     pub fn lend_list(&mut self, len: Option<usize>) {
-        self.list = len.map(|len| len.min(LONGEST_LIST));
+        self.list = len;
     }
 
     /// One call on the image with `N` slots for its answer.
@@ -515,7 +523,7 @@ impl Lender {
     /// What is told of the free regions, in a list as `lend_list` has it.
     pub fn lent_regions(&mut self, each: PerRegion) -> Answer<Vec<u32>> {
         match self.list {
-            Some(len) => self.fill_regions(each, len),
+            Some(len) => self.fill_regions(each, len.min(LONGEST_LIST)),
             None => self.regions(each),
         }
     }
@@ -908,6 +916,46 @@ impl Lender {
         self.totals_afresh()?;
         Ok(())
     }
+
+    // Every small table ---------------------------------------------------------------------
+
+    /// How many tables there are, and their bytes, in a list as `lend_list` has it. Image, words and bytes
+    /// have no part in it.
+    pub fn lent_tables(&self, entries: u32) -> Answer<(u32, Vec<u8>)> {
+        match self.list {
+            Some(len) => fill_tables(entries, len.min(LONGEST_BYTES)),
+            None => tables(entries),
+        }
+    }
+}
+
+/// The tables in a list of `len` bytes.
+fn fill_tables(entries: u32, len: usize) -> Answer<(u32, Vec<u8>)> {
+    let (mut list, mut answer) = (Guarded::<u8>::new(len), Guarded::new(1));
+    let bytes = list.slice_mut();
+    let cause = unsafe { call!(counter_small_tables(= entries, mut bytes, = answer.slots())) };
+    let result = answered(cause, &mut answer);
+    let used = result.as_ref().map_or(Some(0), |[number]| bytes_of_tables(entries, *number));
+    let used = used.filter(|used| *used <= len).ok_or(Stop::Dirty("list: more than it holds"))?;
+    hold(list.stays_from(used), "list")?;
+    let [number] = result?;
+    Ok((number, list.slice()[..used].to_vec()))
+}
+
+/// Bytes of so many tables; none where no table has so many entries, or memory cannot hold them.
+fn bytes_of_tables(entries: u32, number: u32) -> Option<usize> {
+    let each = u64::from(entries).checked_mul(14)?.checked_sub(2)?;
+    each.checked_mul(number.into())?.try_into().ok()
+}
+
+/// The tables in a longer list than they take; and they fit one of their length and no shorter one.
+fn tables(entries: u32) -> Answer<(u32, Vec<u8>)> {
+    let told = fill_tables(entries, ENOUGH_BYTES)?;
+    hold(fill_tables(entries, told.1.len())? == told, "tables: exact list")?;
+    hold(!told.1.is_empty(), "tables: none")?;
+    let short = fill_tables(entries, told.1.len() - 1);
+    hold(matches!(short, Err(Stop::Refused(9))), "tables: short list")?;
+    Ok(told)
 }
 
 #[cfg(test)]

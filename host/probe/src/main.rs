@@ -3,9 +3,10 @@
 //!
 //! - `clusters`: `ok` and, for each free region, rising, `BEFORE:CLUSTERS:REST`: the bytes before
 //!   its first multiple of 0x8000, the whole clusters from there on, the bytes behind them;
-//! - `lend_list N`: `ok`; from here on `free` and `clusters` lend a list of exactly N words (N of 64
-//!   bits), and `err 9` is a list that is too short. `lend_list -`, and so at the start: one that is
-//!   long enough, and it is held besides that the exact length does and a word less is 9;
+//! - `lend_list N`: `ok`; from here on `free` and `clusters` lend a list of exactly N words, and `tables` one
+//!   of exactly N bytes (N of 64 bits), and `err 9` is a list that is too short. `lend_list -`, and so at the
+//!   start: one that is long enough, for `tables` of 1,048,576 bytes, and it is held besides that the exact
+//!   length does and a word, or a byte, less is 9;
 //! - `clear N BUDGET`: `ok TRIED OFFSET COST BOUND`: how many of the runs of N bytes were tried, where the
 //!   cheapest of them starts, what it costs and the bound; `ok none` where none was tried;
 //! - `make_record LIMITS SHARES`: makes a record of the current image, which is in use from here on. Each of
@@ -25,7 +26,10 @@
 //!   zeroed, `0 0` where nothing is;
 //! - `zero OFFSET SIZE`: `ok`; zeros there. It takes neither record nor team nor working bytes;
 //! - `sheet HEX`: `ok` where all its lines ran, else `err N LINE`, LINE 0 or the line from 1. Image and record are then
-//!   those after the lines before it, with 0 and 1 as they were.
+//!   those after the lines before it, with 0 and 1 as they were;
+//! - `tables N`: `ok NUMBER LENGTH HASH`: how many small tables of N entries there are, how many bytes they
+//!   take together, and the hash of these bytes as `hash` has it. Neither the image nor `lend` has any part
+//!   in it.
 //!
 //! Every edit hands in the record in use and keeps what comes back, from a refused call too; a copy, a table and a sheet
 //! do as well. Where none is in use it hands in a fresh one of the image, with team 0 and limits that it cannot pass,

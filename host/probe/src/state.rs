@@ -76,6 +76,7 @@ impl State {
             }
             "sheet" => self.sheet(words),
             "master" => self.master(words),
+            "tables" => self.tables(words),
             _ => self.look(command, words),
         };
         match result {
@@ -474,5 +475,14 @@ impl State {
         words.end()?;
         self.lender.master(disc_end, code, &sizes, &paths)?;
         Ok("ok".into())
+    }
+
+    // Every small table ---------------------------------------------------------------------
+
+    fn tables(&mut self, mut words: Words) -> Answer<String> {
+        let entries = words.word()?;
+        words.end()?;
+        let (number, bytes) = self.lender.lent_tables(entries)?;
+        Ok(format!("ok {number} {} {:016x}", bytes.len(), fnv(FNV_START, &bytes)))
     }
 }

@@ -1,7 +1,7 @@
 //! The probe on the small master: its listing, P1 to P12, every refusal number once, free regions in
 //! clusters, a program behind the table or before it, lists of edits, files filled from given bytes, records,
-//! teams, the stated table maximum, new masters, edits in three calls, edit sheets, runs to clear, and calls
-//! with too little memory or too short a list. `dirty` is never an answer.
+//! teams, the stated table maximum, new masters, edits in three calls, edit sheets, runs to clear, every
+//! small table, and calls with too little memory or too short a list. `dirty` is never an answer.
 
 use std::io::{Read, Write};
 use std::process::{Command, Stdio};
@@ -456,6 +456,71 @@ fn lists_of_a_named_length() {
     ]);
 }
 
+/// What `tables` answers of 1 to 8 entries.
+const TABLES: [&str; 8] = [
+    "ok 1 12 5f242e39c2422d97",
+    "ok 2 52 a26a3aefe92eadd6",
+    "ok 6 240 af00c22473b84e9e",
+    "ok 22 1188 76fb5605ddf1d062",
+    "ok 90 6120 0aaae847186f44b6",
+    "ok 394 32308 630e54ebc00a3c0e",
+    "ok 1806 173376 96b3e5aafc20226a",
+    "ok 8558 941380 675025b1b26afec2",
+];
+
+/// Neither the image nor what is lent has any part in them, and none is changed; the list's length is that of
+/// `lend_list`.
+#[test]
+fn every_small_table() {
+    let mut cases: Vec<(Vec<String>, &str)> = vec![];
+    for (n, told) in (1..).zip(TABLES) {
+        let all: usize = told.split(' ').nth(2).unwrap().parse().unwrap();
+        let asked = format!("tables {n}");
+        for (list, expected) in [
+            ("lend_list -".into(), told),
+            (format!("lend_list {all}"), told),
+            (format!("lend_list {}", all + 1), told),
+            (format!("lend_list {}", all - 1), "err 9"),
+            ("lend_list 0".into(), "err 9"),
+            ("lend_list 1048576".into(), told),
+            ("lend_list 18446744073709551615".into(), told),
+        ] {
+            cases.push((vec![list, asked.clone()], expected));
+        }
+    }
+    for n in ["0", "9", "10", "0x100", "0x80000000", "4294967295"] {
+        // Those of nine would take 5,156,664 bytes.
+        for list in
+            ["lend_list -", "lend_list 0", "lend_list 5156664", "lend_list 18446744073709551615"]
+        {
+            cases.push((vec![list.into(), format!("tables {n}")], "err 9"));
+        }
+    }
+    let mut hash = MASTER.map(String::from).to_vec();
+    hash.extend(["lend 0 0", "hash"].map(String::from));
+    let hash = answers(&hash).pop().unwrap();
+    for (list, expected) in [
+        ("lend_list -, lend 0 0, tables 3", TABLES[2]),
+        ("size 0, tables 3", TABLES[2]),
+        ("patch 0x1c 00, tables 0x3", TABLES[2]),
+        ("tables 8, hash", &hash),
+        ("tables 9, hash", &hash),
+        ("set_record 5 6 4294967295:0:0:7, tables 8, record", "ok 5 6 4294967295:0:0:7 .."),
+        ("drop_record, team 16, tables 2", TABLES[1]),
+        ("tables 2, lend_list 3, free", "err 9"),
+        ("lend_list 3, tables 1", "err 9"),
+        ("lend_list 12, tables 1", TABLES[0]),
+        ("lend_list -, lend 65544 2097152, tables 1, free", "ok 1114:166 1536:6656"),
+    ] {
+        cases.push((list.split(", ").map(String::from).collect(), expected));
+    }
+    let lists: Vec<Vec<&str>> =
+        cases.iter().map(|(list, _)| list.iter().map(String::as_str).collect()).collect();
+    let cases: Vec<(&[&str], &str)> =
+        lists.iter().zip(&cases).map(|(list, (_, expected))| (&list[..], *expected)).collect();
+    hold(&cases);
+}
+
 /// A line that is no command changes nothing.
 #[test]
 fn usage() {
@@ -482,6 +547,13 @@ fn usage() {
         ("lend_list all", "usage not a number"),
         ("clusters 1", "usage too many words"),
         ("cluster", "usage no such command"),
+        ("tables", "usage a word is missing"),
+        ("tables 3 3", "usage too many words"),
+        ("tables 4294967296", "usage above 32 bits"),
+        ("tables 18446744073709551616", "usage not a number"),
+        ("tables -", "usage not a number"),
+        ("tables -1", "usage not a number"),
+        ("table 3", "usage no such command"),
         ("clear", "usage a word is missing"),
         ("clear 1", "usage a word is missing"),
         ("clear 1 2 3", "usage too many words"),
@@ -1354,7 +1426,7 @@ fn never_dirty() {
                 }
                 _ => None,
             });
-            commands.push(match random(25) {
+            commands.push(match random(26) {
                 0 => format!("move {entry} {at}"),
                 1 => format!("resize {entry} {len}"),
                 2 => "rewrite".into(),
@@ -1387,6 +1459,7 @@ fn never_dirty() {
                 21 => format!("resize_copy {entry} {len}"),
                 22 => format!("resize_table {entry} {len}"),
                 23 => format!("clear {} {}", len << random(4), random(4)),
+                24 => format!("tables {}", random(10)),
                 _ => format!("patch {} {:02x}", 0x420 + random(0x44), random(4)),
             });
         }

@@ -183,6 +183,7 @@ impl Stage {
             | "resize_file" | "rewrite" | "move_copy" | "move_table" | "resize_copy"
             | "resize_table" => self.edit(name, filled(&numbers)?, &line.text, &mut lent)?,
             "zero" => self.zero(filled(&numbers)?, &mut lent)?,
+            "small_tables" => small_tables(filled(&numbers)?)?,
             "make_record" => self.make_record(line, &mut lent)?,
             "sheet" => self.sheet(&line.text, &mut lent)?,
             "fill_file" | "fill_zeros" => self.fill_file(name, &numbers, &line.text, &mut lent)?,
@@ -513,6 +514,21 @@ fn header(image: &[u8]) -> Result<Given, String> {
     Ok(Given { numbers, text: vec![] })
 }
 
+/// The tables in the front of a list of so many bytes; nothing else is lent.
+fn small_tables([entries, len]: [u32; 2]) -> Result<Given, String> {
+    let mut list = Guarded::<u8>::new(len as usize);
+    let bytes = list.slice_mut();
+    let mut given =
+        slots::<u32, 1>(|s| unsafe { call!(counter_small_tables(= entries, mut bytes, = s)) })?;
+    let each = (14 * u64::from(entries)).saturating_sub(2);
+    let used = if given[0] == 0 { given[1].saturating_mul(each) } else { 0 };
+    holds(used <= u64::from(len), "more tables than the list holds")?;
+    let used = used as usize;
+    holds(list.stays_from(used), "bytes behind the tables were written")?;
+    given.extend((given[0] == 0).then(|| checksum(&list.slice()[..used])));
+    Ok(Given { numbers: given, text: vec![] })
+}
+
 /// A record of an image whose teams may take anything, with so many words lent; or the number of its refusal.
 fn fresh_record(image: &[u8], words: usize) -> Result<Result<Record, u32>, String> {
     let mut words = vec![0; words];
@@ -541,7 +557,9 @@ fn arity(name: &str) -> usize {
         "open" | "totals" | "program" | "entries" | "free_regions" | "free_clusters"
         | "open_dol" | "header" | "rewrite" | "sheet" => 0,
         "max_region_size" | "allocate" | "clear" | "move_file" | "resize_file" | "fill_zeros"
-        | "move_copy" | "move_table" | "resize_copy" | "resize_table" | "zero" => 2,
+        | "move_copy" | "move_table" | "resize_copy" | "resize_table" | "zero" | "small_tables" => {
+            2
+        }
         _ => 1,
     }
 }

@@ -15,7 +15,7 @@ fn every_call_of_every_script() {
         assert!(outcome.differ.is_empty(), "{}", outcome.differ.join("\n"));
         calls += outcome.calls;
     }
-    assert_eq!(calls, 12750, "all of them, so that none is lost");
+    assert_eq!(calls, 14669, "all of them, so that none is lost");
 }
 
 /// A script that a program of this folder puts together is as it does.
@@ -49,6 +49,11 @@ fn edit_sheets_are_put_together() {
 #[test]
 fn runs_to_clear_are_put_together() {
     put_together("runs.py", "clear.txt");
+}
+
+#[test]
+fn small_tables_are_put_together() {
+    put_together("small.py", "small_tables.txt");
 }
 
 const MASTER: &str =
@@ -126,6 +131,13 @@ fn right_answers_of_the_small_master() {
         "master 0x44b 0 = 21 0x203a64a4776abcd2",
         "record 5 6\nmaster 0x2000 0 1 \"a\" = 8 0x203a64a4776abcd2",
         "master 0x44c 0x47434c45 = 0 0xd5219a723b1c27a8",
+        // Small tables, whatever the image and what else is lent.
+        "small_tables 3 240 = 0 6 0xaf00c22473b84e9e",
+        "small_tables 3 241 = 0 6 0xaf00c22473b84e9e",
+        "size 0\nlend 0 0 0\nsmall_tables 3 240 = 0 6 0xaf00c22473b84e9e",
+        "small_tables 3 239 = 9",
+        "small_tables 0 0x100000 = 9",
+        "small_tables 9 0x1000000 = 9",
         "list 0x46 = 0 0x46 \"total 8192 used 1370\nd 0 0 2 /\nf 1 1280 256 /a\nr 1114 166\nr 1536 6656\n\"",
     ] {
         assert_eq!(of(line), [""; 0], "{line}");
@@ -179,6 +191,11 @@ fn a_wrong_answer_is_told() {
             "s:7: resize_table 1 0x100: gave 0x0 0x203a64a4776abcd2 0x0 0x0, has to give 0x0 0x203a64a4776abcd2 0x0 0x1",
         ),
         ("zero 1 = 0 0x203a64a4776abcd2", "s:7: zero 1: a number too many or too few"),
+        (
+            "small_tables 2 52 = 0 2 0",
+            "s:7: small_tables 2 52: gave 0x0 0x2 0xa26a3aefe92eadd6, has to give 0x0 0x2 0x0",
+        ),
+        ("small_tables 2 = 9", "s:7: small_tables 2: a number too many or too few"),
         ("sheet 1 = 30 0x203a64a4776abcd2 0", "s:7: sheet 1: a number too many or too few"),
         (
             "sheet \"\" = 30 0x203a64a4776abcd2 1",

@@ -360,4 +360,11 @@ unsafe extern "C" {
         paths: *const u8,
         paths_len: usize,
     ) -> u32;
+
+    pub fn counter_small_tables(
+        entries: u32,
+        list: *mut u8,
+        list_len: usize,
+        answer: *mut [u32; 1],
+    ) -> u32;
 }

@@ -156,11 +156,21 @@ pub const MOST_LEVELS: usize = 64;
 pub const MOST_PATH: usize = 1_024;
 /// Lines of an edit sheet.
 pub const MOST_LINES: usize = 1_024;
+/// Entries, the root among them, that `small_tables` goes up to.
+pub const MOST_SMALL: u32 = 8;
 
 /// What an image within them wants to be lent at most.
 pub const MOST_REGIONS: usize = MOST_ENTRIES + 1;
 pub const MOST_WORDS: usize = 4 * (MOST_ENTRIES + 2);
 pub const MOST_TABLE: usize = 12 * MOST_ENTRIES + MOST_TEXT;
+
+/// Bytes of all tables of `MOST_SMALL` entries.
+pub const MOST_SMALL_TABLES: usize = 941_380;
+
+/// Bytes of one small table of so many entries, at least 1.
+pub const fn small_table_size(entries: u32) -> usize {
+    14 * entries as usize - 2
+}
 
 /// A call of a C function: a slice that it reads (`in`) or is lent (`mut`) goes in as a pointer and a
 /// length, a number or slots of fixed length (`=`) as they are.
@@ -709,4 +719,14 @@ pub fn master(
             mut image, mut memory.words, mut memory.bytes, = game_code, = disc_end, in sizes, in paths
         ))
     })
+}
+
+// Every small table -----------------------------------------------------------------------
+
+/// The tables of all shapes of so many entries in front of `list`; the answer is how many there are, and each
+/// has `small_table_size` bytes.
+pub fn small_tables(entries: u32, list: &mut [u8]) -> Answer<u32> {
+    let mut answer = [0; 1];
+    told(unsafe { call!(counter_small_tables(= entries, mut list, = &mut answer)) })?;
+    Ok(answer[0])
 }

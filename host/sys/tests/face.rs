@@ -1,11 +1,12 @@
 //! What the probe's language does not reach: windows that no call gives; each call on slices; the
-//! program's region; an image with nothing in it.
+//! program's region; an image with nothing in it; every small table, opened.
 
 use counter_sys::guarded::Guarded;
 use counter_sys::{
     CheapestRun, Entry, Memory, Opened, Record, Region, Stopped, TEAMS, Team, Window, call,
 };
 use std::array;
+use std::collections::BTreeSet;
 
 /// The small master.
 fn small_master() -> Vec<u8> {
@@ -1136,4 +1137,40 @@ fn a_new_master_whose_table_passes_a_cluster() {
     let seventh = Entry::File { number: 8, offset: 0x1_0000, size: 1 };
     assert_eq!(counter_sys::entry_at(&image, m, 8), Ok(seventh));
     assert_eq!((&image[..4], &image[0x1_0000..]), (&b"GAME"[..], &[0][..]));
+}
+
+/// Each of them opens in the small master, and a rewrite would write it as it is.
+#[test]
+fn every_small_table() {
+    for (entries, number) in (1..).zip([1, 2, 6, 22, 90, 394, 1806, 8558]) {
+        let size = counter_sys::small_table_size(entries);
+        let all = number as usize * size;
+        let mut list = Guarded::<u8>::new(all + 1);
+        assert_eq!(counter_sys::small_tables(entries, &mut list.slice_mut()[..all - 1]), Err(9));
+        assert!(list.stays_from(0));
+        assert_eq!(counter_sys::small_tables(entries, list.slice_mut()), Ok(number));
+        assert!(list.stays_from(all));
+        let tables: BTreeSet<&[u8]> = list.slice()[..all].chunks(size).collect();
+        assert_eq!(tables.len() as u32, number);
+        let (mut words, mut anew) = (vec![9; 4 * (entries as usize + 2)], vec![9; size]);
+        for table in tables {
+            let mut image = small_master();
+            put(&mut image, 0x428, &(size as u32).to_be_bytes());
+            put(&mut image, 0x440, table);
+            let memory = &mut Memory { words: &mut words, bytes: &mut [] };
+            assert_eq!(counter_sys::open(&image, memory).unwrap().entries, entries);
+            assert_eq!(counter_sys::table_anew(&image, memory.words, &mut anew), Ok(size));
+            assert!(anew == table);
+        }
+    }
+    // Of nine there would be 41,586.
+    let mut list = vec![9; 41_586 * counter_sys::small_table_size(9)];
+    for entries in [0, 9, 10, 1 << 31, (1 << 31) + 8, u32::MAX] {
+        assert_eq!(counter_sys::small_tables(entries, &mut list), Err(9));
+    }
+    assert!(list.iter().all(|byte| *byte == 9));
+    assert_eq!(counter_sys::small_tables(counter_sys::MOST_SMALL, &mut list), Ok(8558));
+    for entries in 0..=9 {
+        assert_eq!(counter_sys::small_tables(entries, &mut []), Err(9));
+    }
 }

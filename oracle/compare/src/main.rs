@@ -22,6 +22,8 @@ mod records;
 mod rules;
 mod run;
 mod sample;
+mod shape_rules;
+mod shapes;
 mod sheet_rules;
 mod sheets;
 mod step_rules;
@@ -37,9 +39,9 @@ use sample::Sample;
 use std::process::exit;
 use std::time::Instant;
 
-const SUITES: [&str; 16] = [
+const SUITES: [&str; 17] = [
     "limits", "numbers", "fills", "records", "teams", "steps", "sheets", "pairs", "maxima",
-    "programs", "names", "tables", "trees", "wishes", "runs", "random",
+    "programs", "names", "tables", "shapes", "trees", "wishes", "runs", "random",
 ];
 
 struct Options {
@@ -206,6 +208,7 @@ fn main() {
             "programs" => programs::programs(&mut run),
             "names" => names::names(&mut run),
             "tables" => suites::tables(&mut run),
+            "shapes" => shapes::shapes(&mut run),
             "trees" => suites::trees(&mut run),
             "wishes" => wishes::wishes(&mut run, options.seed, options.images),
             "runs" => clearing::clearing(&mut run, options.seed, options.images),

@@ -1,0 +1,11 @@
+pub mod Lists
+pub mod Entries
+pub mod Begun
+pub mod Shapes
+pub mod Order
+pub mod Numbers
+pub mod Bytes
+pub mod Trees
+pub mod Accepted
+pub mod Places
+pub mod Opens

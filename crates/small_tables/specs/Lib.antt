@@ -1,0 +1,4 @@
+pub mod Shapes
+pub mod Tables
+pub mod Theorem
+pub mod Inner
