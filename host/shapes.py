@@ -2,7 +2,9 @@
 which shapes there are, their order, their tables, and the small master with one of them.
 
 A shape is the list of its entries, the root among them: FILE, or the next of a directory. A tree is its entries'
-paths in order, those of directories with a `/` at the end."""
+paths in order, those of directories with a `/` at the end.
+
+replay/small.py reads the same rule by itself, on purpose: a slip of one reading does not pass in the other."""
 
 import functools
 import itertools

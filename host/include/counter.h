@@ -40,7 +40,7 @@
  *                            program and one behind each file
  *     counter_free_clusters  COUNTER_CLUSTER_WORDS * (n + 1) words
  *
- * The list of counter_small_tables is sized by the number that the call is given, and has bytes.
+ * The list of counter_small_tables is one of bytes. How many it must have depends on the `entries` that the call is given: see there.
  *
  * Every call that takes words opens the image first, and refuses what opening refuses (counter_fault tells it instead, and counter_report
  * writes it; counter_sheet reads its sheet before; counter_master asks nothing of what the image holds). Its tests, in this order: the

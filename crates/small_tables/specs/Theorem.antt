@@ -55,19 +55,20 @@ EachOnce =
 -- ---- how many
 
 -- with m entries besides the root
-abbrev pub number_of : ℕ → ℕ
-number_of m = length (shapes (suc m))
+abbrev pub number_behind_root : ℕ → ℕ
+number_behind_root m = length (shapes (suc m))
 
 -- THEOREM: of m + 1 entries the first is a file, before m; or it is a directory, with i of the m in
 -- it and the others behind it
 abbrev pub Numbers : Type 0
 Numbers =
-    (number_of 0 ≡ 1)
-    × ((m : ℕ) → number_of (suc m)
-    ≡ number_of m
-    + sum (map (λ i. number_of i * number_of (m - i)) (range_with_len 0 (suc m))))
-    × (number_of 1 ≡ 2) × (number_of 2 ≡ 6) × (number_of 3 ≡ 22) × (number_of 4 ≡ 90)
-    × (number_of 5 ≡ 394) × (number_of 6 ≡ 1806) × (number_of 7 ≡ 8558)
+    (number_behind_root 0 ≡ 1)
+    × ((m : ℕ) → number_behind_root (suc m)
+    ≡ number_behind_root m
+    + sum (map (λ i. number_behind_root i * number_behind_root (m - i)) (range_with_len 0 (suc m))))
+    × (number_behind_root 1 ≡ 2) × (number_behind_root 2 ≡ 6) × (number_behind_root 3 ≡ 22)
+    × (number_behind_root 4 ≡ 90) × (number_behind_root 5 ≡ 394)
+    × (number_behind_root 6 ≡ 1806) × (number_behind_root 7 ≡ 8558)
 
 -- ---- their tables
 

@@ -32,7 +32,8 @@ fn write_each(shape: &mut [Entry], k: usize, list: &mut [u8], at: usize) -> usiz
     requires begun { IsBegun (length shape.old) (take k shape.old) }
     requires within { k ≤ length shape.old }
     requires few { length shape.old ≤ 8 }
-    requires room { at + length (tables_with (length shape.old) (take k shape.old)) ≤ length list.old }
+    requires room { at + length (tables_with (length shape.old) (take k shape.old))
+        ≤ length list.old }
     ensures end { result ≡ at + length (tables_with (length shape.old) (take k shape.old)) }
     ensures list { list.new ≡ put list.old at (tables_with (length shape.old) (take k shape.old)) }
     ensures first { take k shape.new ≡ take k shape.old }

@@ -816,12 +816,13 @@ A shape says which of a table's entries are folders, and where each of these end
 stand in the order of their entries, from the first behind the root on: a file before a folder, and of two folders the \
 one that ends first. Files are empty, and the entries are called a, b, c and so on.
 The masters are 1.iso, 2.iso and so on in that order, with as many digits as the last one has: 0001.iso to 8558.iso. \
-Each is the small master of docs/FORMAT.md, 8 KiB, with the table put over its own at 0x440 and the table's size in \
-the header, and nothing else changed. A line for each has its paths, a folder's with / at the end, and the root's only \
+The names begin with 1 for every number of entries, so that each wants a DIR of its own. Each is the small master of \
+docs/FORMAT.md, 8 KiB, with the table put over its own at 0x440 and the table's size in the header, and nothing else \
+changed: that of 1 entry has 12 bytes, and the other 14 of the small master's stay behind it. A line for each has its paths, a folder's with / at the end, and the root's only \
 where that is alone.
 DIR may hold other files. If one of the names is there, or a journal or a clip beside it, that is told, and nothing is \
-written (73). An error, Ctrl-C, SIGHUP, SIGQUIT and SIGTERM leave nothing, nor a DIR that was made; every other signal \
-but SIGKILL waits for the end. The masters are not synced: after SIGKILL or a power cut some may be there, or be cut \
+written (73). An error, Ctrl-C, SIGHUP, SIGQUIT and SIGTERM leave nothing, nor a DIR that was made; what cannot be \
+taken away is told. Once the writing has begun every other signal but SIGKILL waits for the end. The masters are not synced: after SIGKILL or a power cut some may be there, or be cut \
 short. Take them away, and make them again.";
 
 // The arguments ---------------------------------------------------------------------------

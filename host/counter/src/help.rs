@@ -503,7 +503,8 @@ fn statuses() -> String {
          \x20 70  the library answered what it never should\n\
          \x20 73  an output, a journal, a clip that is kept or a record cannot be created, or is there already;\n\
          \x20     extract: two entries would be one file, or a name has too many bytes for a file;\n\
-         \x20     tables: a name in DIR that one of the masters has, or a journal or a clip beside it\n\
+         \x20     tables: a DIR that is no folder; in it a name that one of the masters has, or a journal or a\n\
+         \x20     clip beside it\n\
          \x20 74  input/output error; the disk is full\n\
          \x20 75  another program is using the image, or the record's FILE\n\
          \x20 77  not allowed: a read-only file or disk, or no permission\n\
@@ -512,7 +513,7 @@ fn statuses() -> String {
          \x20     sheet: where a line is told, all this is of that line; those before it are done and stay,\n\
          \x20     and so is one that was cut before and is told to be finished now\n\
          \x20 76  the edit, or the new image, is written and synced, but its answer could not be printed;\n\
-         \x20     tables: the same of masters that are made\n\
+         \x20     tables: the masters are made, not synced\n\
          \x20 78  an edit was cut: the image may hold a part of it, and its journal is there;\n\
          \x20     `counter recover IMAGE` finishes the edit. Or only its record is not written yet: the\n\
          \x20     last line says so. compare, report: nothing differs without leave, but an edit was cut of an\n\

@@ -293,6 +293,12 @@ impl Desk {
         Desk { words: vec![0; MOST_WORDS], bytes: vec![0; MOST_TABLE] }
     }
 
+    /// Enough to read images of so many entries. A call writes to all that it is lent, which takes longer than
+    /// to read a small one.
+    pub fn to_read(entries: u32) -> Desk {
+        Desk { words: vec![0; 4 * (entries as usize + 2)], bytes: Vec::new() }
+    }
+
     pub fn lend(&mut self) -> Memory<'_> {
         Memory { words: &mut self.words, bytes: &mut self.bytes }
     }

@@ -145,7 +145,9 @@ fn noted(number: i32) {
     let line = if io::stderr().is_terminal() { "\r\x1b[K" } else { "" };
     let name = called(number);
     match (free, seconds_left()) {
-        (Ok(_) | Err(GIVEN_UP), _) if is_making() => {
+        // It was said at the first one.
+        (Err(GIVEN_UP), _) if is_making() => {}
+        (Ok(_), _) if is_making() => {
             tell(format_args!("{line}counter: {name}: what was made is taken away\n"))
         }
         (Ok(_) | Err(GIVEN_UP), _) => {

@@ -3,9 +3,9 @@
 mod support;
 
 use counter_sys::{
-    CLUSTER_SIZE, MOST_ENTRIES, MOST_LEVELS, MOST_LINES, MOST_PATH, MOST_REGIONS, MOST_TABLE,
-    MOST_TEXT, MOST_WORDS, Memory, RECORD_WORDS, Record, SHEET_HEADER_SIZE, SHEET_LINE_SIZE, TEAMS,
-    Team,
+    CLUSTER_SIZE, MOST_ENTRIES, MOST_LEVELS, MOST_LINES, MOST_PATH, MOST_REGIONS, MOST_SMALL,
+    MOST_SMALL_TABLES, MOST_TABLE, MOST_TEXT, MOST_WORDS, Memory, RECORD_WORDS, Record,
+    SHEET_HEADER_SIZE, SHEET_LINE_SIZE, TEAMS, Team, small_table_size,
 };
 use std::fs;
 use std::path::{Path, PathBuf};
@@ -781,6 +781,8 @@ fn causes_and_limits_are_those_of_the_rules() {
         ("MOST_LEVELS", MOST_LEVELS, 64),
         ("MOST_PATH", MOST_PATH, 1024),
         ("MOST_LINES", MOST_LINES, 1024),
+        ("MOST_SMALL", MOST_SMALL as usize, 8),
+        ("MOST_SMALL_TABLES", MOST_SMALL_TABLES, 941380),
     ];
     for (name, from_rust, rule) in limits {
         assert_eq!(from_rust, rule, "{name}");
@@ -793,7 +795,12 @@ fn causes_and_limits_are_those_of_the_rules() {
     for (name, bytes) in [("HEADER", SHEET_HEADER_SIZE), ("LINE", SHEET_LINE_SIZE)] {
         assert!(header.contains(&format!("#define COUNTER_SHEET_{name}_BYTES {bytes}\n")));
     }
+    assert_eq!(
+        (small_table_size(MOST_SMALL), 8_558 * small_table_size(MOST_SMALL)),
+        (110, MOST_SMALL_TABLES)
+    );
     for line in [
+        "#define COUNTER_SMALL_TABLE_BYTES(entries) (14 * (entries) - 2) ",
         "#define COUNTER_MOST_REGIONS (COUNTER_MOST_ENTRIES + 1)\n",
         "#define COUNTER_MOST_WORDS (4 * (COUNTER_MOST_ENTRIES + 2))\n",
         "#define COUNTER_MOST_TABLE (12 * COUNTER_MOST_ENTRIES + COUNTER_MOST_TEXT)\n",

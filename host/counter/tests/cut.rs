@@ -3,10 +3,10 @@
 
 mod support;
 
-use std::fs::{self, File, Permissions};
+use std::fs::{self, File};
 use std::io::Read;
 use std::os::fd::AsRawFd;
-use std::os::unix::fs::{FileExt, OpenOptionsExt, PermissionsExt};
+use std::os::unix::fs::{FileExt, OpenOptionsExt};
 use std::os::unix::process::CommandExt;
 use std::path::{Path, PathBuf};
 use std::process::{Child, Command, Stdio};
@@ -516,11 +516,9 @@ fn an_image_that_shrinks_while_it_is_read_is_told() {
 
 /// RLIMIT_NPROC, which holds nobody who may do everything: then the edit is done as another user.
 const PROCESSES: i32 = 6;
-const NOBODY: u32 = 65534;
 
 unsafe extern "C" {
     fn setrlimit(what: i32, limit: *const [u64; 2]) -> i32;
-    fn geteuid() -> u32;
 }
 
 /// Without a thread there is no progress, and a trial counts more memory; sums and edits are done all the same.
@@ -528,22 +526,15 @@ unsafe extern "C" {
 fn sums_and_edits_are_done_where_no_thread_can_be_had() {
     let stage = Stage::new();
     let image = stage.reset();
-    let counter = stage.temp.at("counter");
-    // Not by fs::copy: a child that another test starts meanwhile would hold the copy open, and none could run it.
-    let copied = Command::new("cp").arg(env!("CARGO_BIN_EXE_counter")).arg(&counter).status();
-    assert!(copied.unwrap().success());
-    for (path, mode) in [(&counter, 0o755), (&image, 0o666), (&stage.temp.at(""), 0o777)] {
-        fs::set_permissions(path, Permissions::from_mode(mode)).unwrap();
-    }
+    let counter = copied(&stage.temp);
+    mode(&image, 0o666);
+    mode(&stage.temp.at(""), 0o777);
     let Some((_shows, writes)) = terminal() else {
         not_tried("progress: no terminal to be had");
         return;
     };
     let limited = |program: &Path| {
-        let mut command = Command::new(program);
-        if unsafe { geteuid() } == 0 {
-            command.uid(NOBODY);
-        }
+        let mut command = held_back(program);
         // SAFETY: between fork and exec only `setrlimit` is called, which may be called there.
         unsafe {
             command.pre_exec(|| {

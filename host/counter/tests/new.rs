@@ -3,14 +3,10 @@
 mod support;
 
 use std::fs::{self, File};
-use std::io::Read;
 use std::os::unix::ffi::OsStrExt;
-use std::os::unix::fs::{OpenOptionsExt, PermissionsExt, symlink};
-use std::os::unix::process::CommandExt;
+use std::os::unix::fs::symlink;
 use std::path::{Path, PathBuf};
 use std::process::{Child, Command, Stdio};
-use std::thread;
-use std::time::Duration;
 use support::*;
 
 const SIGBUS: i32 = 7;
@@ -622,12 +618,6 @@ fn where_it_cannot_be_made() {
     }
 }
 
-const NOBODY: u32 = 65534;
-
-unsafe extern "C" {
-    fn geteuid() -> u32;
-}
-
 /// A folder that may not be written to, and a file that may not be read, are told before anything is written. Whoever
 /// may do everything tries it as another user.
 #[test]
@@ -637,14 +627,7 @@ fn what_is_not_allowed() {
     let files = temp.at("files");
     fs::create_dir(&files).unwrap();
     let secret = temp.write("files/secret", b"mine");
-    let counter = temp.at("counter");
-    // Not by fs::copy: a child that another test starts meanwhile would hold the copy open, and none could run it.
-    let copied = Command::new("cp").arg(env!("CARGO_BIN_EXE_counter")).arg(&counter).status();
-    assert!(copied.unwrap().success());
-    let mode = |path: &Path, mode| {
-        fs::set_permissions(path, fs::Permissions::from_mode(mode)).unwrap();
-    };
-    mode(&counter, 0o755);
+    let counter = copied(&temp);
     mode(&secret, 0o000);
     for (folder, from, source, status) in [
         (0o777, "--from", &list, 0),
@@ -653,10 +636,7 @@ fn what_is_not_allowed() {
     ] {
         mode(&temp.at(""), folder);
         for more in [&["--dry-run"][..], &[]] {
-            let mut command = Command::new(&counter);
-            if unsafe { geteuid() } == 0 {
-                command.uid(NOBODY);
-            }
+            let mut command = held_back(&counter);
             command.arg("new").arg(temp.at("new.iso")).args(["--size", "1M", "--code", "GCTE"]);
             let run: Run = command.arg(from).arg(source).args(more).output().unwrap().into();
             assert_eq!(run.status, status, "{}", run.err);
@@ -773,26 +753,15 @@ fn on_a_full_disk_nothing_is_left() {
     assert_eq!(names(&temp.at("")), before);
 }
 
-/// A run that waits, with its new file in the midst of the writing: its log is a pipe, of which nobody reads what
-/// the pipe cannot hold.
-fn waiting(temp: &Temp, from: &str, source: &Path) -> (Child, File) {
-    let pipe = temp.at("log");
-    assert!(Command::new("mkfifo").arg(&pipe).status().unwrap().success());
-    const O_NONBLOCK: i32 = 0x800;
-    let log = File::options().read(true).custom_flags(O_NONBLOCK).open(&pipe).unwrap();
+/// A run that waits, with its new file in the midst of the writing.
+fn cut_short(temp: &Temp, from: &str, source: &Path) -> (Child, File) {
     let mut command = program();
     command.arg("new").arg(temp.at("new.iso"));
     command.args(["--size", "0x10000000", "--code", "GCTE", from, source.to_str().unwrap()]);
-    command.stdout(Stdio::piped()).stderr(Stdio::piped()).env("COUNTER_LOG_WRITES", &pipe);
-    let child = command.spawn().unwrap();
-    let early = temp.at(&format!("counter-new.{}", child.id()));
-    for _ in 0..2000 {
-        if fs::metadata(&early).is_ok_and(|told| told.len() == 0x1000_0000) {
-            return (child, log);
-        }
-        thread::sleep(Duration::from_millis(5));
-    }
-    panic!("{} is not there", early.display());
+    waiting(temp, command, |child| {
+        let early = temp.at(&format!("counter-new.{}", child.id()));
+        fs::metadata(early).is_ok_and(|told| told.len() == 0x1000_0000)
+    })
 }
 
 /// A list whose table the pipe cannot hold.
@@ -805,7 +774,7 @@ fn many(temp: &Temp) -> PathBuf {
 fn a_run_that_is_cut_leaves_nothing() {
     for number in [SIGHUP, SIGINT, SIGQUIT, SIGTERM, SIGBUS] {
         let temp = Temp::new();
-        let (child, log) = waiting(&temp, "--from", &many(&temp));
+        let (child, log) = cut_short(&temp, "--from", &many(&temp));
         assert_eq!(names(&temp.at("")).len(), 3);
         send(&child, number);
         let run: Run = child.wait_with_output().unwrap().into();
@@ -821,24 +790,11 @@ fn a_run_that_is_cut_leaves_nothing() {
     }
     // Nobody can tidy up after SIGKILL; but there is no OUT.
     let temp = Temp::new();
-    let (mut child, _log) = waiting(&temp, "--from", &many(&temp));
+    let (mut child, _log) = cut_short(&temp, "--from", &many(&temp));
     child.kill().unwrap();
     child.wait().unwrap();
     let early = format!("counter-new.{}", child.id());
     assert_eq!(names(&temp.at("")), [&early, "log", "wishes.txt"]);
-}
-
-/// Lets a run that waits go on to its end.
-fn go_on(child: Child, mut log: File) -> Run {
-    let reader = thread::spawn(move || {
-        let mut part = [0; 0x1_0000];
-        while let Ok(1..) | Err(_) = log.read(&mut part) {
-            thread::sleep(Duration::from_millis(1));
-        }
-    });
-    let run = child.wait_with_output().unwrap().into();
-    reader.join().unwrap();
-    run
 }
 
 /// Those that nobody answers wait until the new image is there; SIGUSR1 to SIGPWR, and the first of real time.
@@ -846,7 +802,7 @@ fn go_on(child: Child, mut log: File) -> Run {
 fn other_signals_wait() {
     for number in [10, 12, 14, 24, 26, 27, 29, 30, 34] {
         let temp = Temp::new();
-        let (child, log) = waiting(&temp, "--from", &many(&temp));
+        let (child, log) = cut_short(&temp, "--from", &many(&temp));
         send(&child, number);
         let run = go_on(child, log);
         assert_eq!(run.signal, Some(number), "{}", run.err);
@@ -877,7 +833,7 @@ fn what_changes_meanwhile() {
         for k in 0..400 {
             fs::write(folder.join(format!("{k:0200}")), [k as u8; 3]).unwrap();
         }
-        let (child, log) = waiting(&temp, "--from-dir", &folder);
+        let (child, log) = cut_short(&temp, "--from-dir", &folder);
         let last = folder.join(format!("{:0200}", 399));
         let (status, words) = match case {
             "taken" => {

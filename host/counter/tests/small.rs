@@ -4,8 +4,7 @@
 mod support;
 
 use std::fs::{self, File};
-use std::io::Read;
-use std::os::unix::fs::{OpenOptionsExt, symlink};
+use std::os::unix::fs::symlink;
 use std::path::{Path, PathBuf};
 use std::process::{Child, Command, Stdio};
 use std::thread;
@@ -22,14 +21,15 @@ fn parent(shape: &[Kind], k: usize) -> usize {
     (0..k).rev().find(|&d| shape[d].is_some_and(|next| next > k)).unwrap()
 }
 
-/// Whether cause 10 does not refuse entry k: a directory's next is above its own number, and neither above the
-/// count nor above its parent's next.
+/// Whether cause 10 does not refuse entry k: a directory's next is above its own number, and neither above
+/// the count nor above its parent's next.
 fn is_good(list: &[Kind], count: usize, k: usize) -> bool {
     list[k].is_none_or(|next| next > k && next <= count && next <= list[parent(list, k)].unwrap())
 }
 
-/// The shapes of so many entries in their order: by entries from 1 on, file before directory, then smaller next
-/// first. Of all lists those are left out that have an entry that is refused, which none behind it changes.
+/// The shapes of so many entries in their order: by entries from 1 on, file before directory, then smaller
+/// next first. Of all lists those are left out that have an entry that is refused, which none behind it
+/// changes.
 fn shapes(n: usize) -> Vec<Vec<Kind>> {
     let kinds: Vec<Kind> = [None].into_iter().chain((0..=n + 1).map(Some)).collect();
     let mut lists = vec![vec![Some(n)]];
@@ -442,6 +442,8 @@ fn where_a_set_is_made() {
     temp.write("file", b"mine");
     symlink("there", temp.at("way")).unwrap();
     symlink("nowhere", temp.at("lost")).unwrap();
+    symlink("round", temp.at("round")).unwrap();
+    symlink("file", temp.at("link")).unwrap();
     let ask = |into: &str, more: &[&str]| -> Run {
         let mut command = program();
         command.args(["tables", "2", "--into", into]).args(more).current_dir(temp.at(""));
@@ -449,11 +451,28 @@ fn where_a_set_is_made() {
     };
     let before = names(&temp.at(""));
     for (into, status, words) in [
-        ("file", 73, "counter: file: is there already, and nothing is overwritten\n"),
-        ("lost", 73, "counter: lost: is there already, and nothing is overwritten\n"),
-        ("none/small", 73, "counter: none/small: no such file\n"),
-        ("file/small", 73, "counter: file/small: "),
-        ("", 73, "no such file\n"),
+        ("file", 73, "counter: file: is there, and is no folder\n"),
+        ("file/", 73, "counter: file/: is there, and is no folder\n"),
+        ("link", 73, "counter: link: is there, and is no folder\n"),
+        ("lost", 73, "counter: lost: is there, and is no folder\n"),
+        ("round", 73, "counter: round: is there, and is no folder\n"),
+        ("/dev/null", 73, "counter: /dev/null: is there, and is no folder\n"),
+        (
+            "none/small",
+            73,
+            "counter: none/small: the folder that it should stand in is not there\n",
+        ),
+        (
+            "lost/small",
+            73,
+            "counter: lost/small: the folder that it should stand in is not there\n",
+        ),
+        ("file/small", 73, "counter: file/small: what it should stand in is no folder\n"),
+        (
+            "",
+            64,
+            "counter: --into DIR is missing; usage: counter tables ENTRIES --into DIR [--json]\n",
+        ),
         ("small.counter-journal", 64, "a name that a journal has, or a clip that is kept"),
     ] {
         let run = ask(into, &[]);
@@ -579,37 +598,10 @@ fn on_a_full_disk_nothing_is_left() {
     assert!(!temp.at("new").exists());
 }
 
-/// A run that waits in the midst of the writing: its log is a pipe, of which nobody reads what the pipe
-/// cannot hold.
-fn waiting(temp: &Temp, into: &Path) -> (Child, File) {
-    let pipe = temp.at("log");
-    assert!(Command::new("mkfifo").arg(&pipe).status().unwrap().success());
-    const O_NONBLOCK: i32 = 0x800;
-    let log = File::options().read(true).custom_flags(O_NONBLOCK).open(&pipe).unwrap();
-    let mut command = asked("5", into);
-    command.stdout(Stdio::piped()).stderr(Stdio::piped()).env("COUNTER_LOG_WRITES", &pipe);
-    let child = command.spawn().unwrap();
-    // A pipe holds 64 KiB at most, and a master has 8.
-    for _ in 0..2000 {
-        if into.join("03.iso").is_file() {
-            return (child, log);
-        }
-        thread::sleep(Duration::from_millis(5));
-    }
-    panic!("{} is not there", into.display());
-}
-
-/// Lets it go on to its end.
-fn go_on(child: Child, mut log: File) -> Run {
-    let reader = thread::spawn(move || {
-        let mut part = [0; 0x1_0000];
-        while let Ok(1..) | Err(_) = log.read(&mut part) {
-            thread::sleep(Duration::from_millis(1));
-        }
-    });
-    let run = child.wait_with_output().unwrap().into();
-    reader.join().unwrap();
-    run
+/// A run that waits in the midst of the writing, with three files at least. (A pipe holds 64 KiB at most,
+/// and a master has 8.)
+fn cut_short(temp: &Temp, into: &Path) -> (Child, File) {
+    waiting(temp, asked("5", into), |_| into.join("03.iso").is_file())
 }
 
 #[test]
@@ -622,7 +614,10 @@ fn a_signal_leaves_nothing() {
                 fs::create_dir(&into).unwrap();
                 temp.write("small/notes.txt", b"mine");
             }
-            let (child, log) = waiting(&temp, &into);
+            let (child, log) = cut_short(&temp, &into);
+            send(&child, number);
+            // A second one says nothing more.
+            thread::sleep(Duration::from_millis(20));
             send(&child, number);
             let run = go_on(child, log);
             assert_eq!((run.signal, run.out.as_str()), (Some(number), ""), "{}", run.err);
@@ -640,7 +635,7 @@ fn a_signal_leaves_nothing() {
     // Nobody can tidy up after SIGKILL: some are there, and are told by the next run.
     let temp = Temp::new();
     let into = temp.at("small");
-    let (mut child, _log) = waiting(&temp, &into);
+    let (mut child, _log) = cut_short(&temp, &into);
     child.kill().unwrap();
     child.wait().unwrap();
     assert!((3..9).contains(&names(&into).len()));
@@ -652,7 +647,7 @@ fn other_signals_wait() {
     for number in [10, 12, 14, 24, 30, 34] {
         let temp = Temp::new();
         let into = temp.at("small");
-        let (child, log) = waiting(&temp, &into);
+        let (child, log) = cut_short(&temp, &into);
         send(&child, number);
         let run = go_on(child, log);
         assert_eq!(run.signal, Some(number), "{}", run.err);
@@ -670,7 +665,7 @@ fn a_name_that_is_taken_meanwhile() {
     for is_link in [false, true] {
         let temp = Temp::new();
         let into = temp.at("small");
-        let (child, log) = waiting(&temp, &into);
+        let (child, log) = cut_short(&temp, &into);
         let place = into.join("77.iso");
         match is_link {
             true => symlink("nowhere", &place).unwrap(),
@@ -684,6 +679,103 @@ fn a_name_that_is_taken_meanwhile() {
         let left = (!is_link).then(|| b"mine".to_vec());
         assert_eq!(inside(&into), [("77.iso".to_string(), left)]);
         assert!(!into.join("nowhere").exists());
+    }
+}
+
+/// Nor does what somebody else puts in the place of a master go when the others do.
+#[test]
+fn a_name_that_has_another_file_meanwhile() {
+    let temp = Temp::new();
+    let into = temp.at("small");
+    let mine = temp.write("mine", b"mine");
+    let (child, log) = cut_short(&temp, &into);
+    let has_birth = fs::metadata(&mine).unwrap().created().is_ok();
+    // A disk may give the new file the number of the old one; the times of birth differ, where it keeps them.
+    if has_birth {
+        thread::sleep(Duration::from_millis(50));
+        fs::remove_file(into.join("01.iso")).unwrap();
+        fs::write(into.join("01.iso"), b"mine").unwrap();
+    }
+    fs::rename(mine, into.join("02.iso")).unwrap();
+    // One that is gone is no fault.
+    fs::remove_file(into.join("03.iso")).unwrap();
+    send(&child, SIGINT);
+    let run = go_on(child, log);
+    assert_eq!(run.signal, Some(SIGINT), "{}", run.err);
+    let told = "\ncounter: stopped by Ctrl-C (SIGINT); nothing is left of the masters\n";
+    assert!(run.err.ends_with(told), "{}", run.err);
+    let left: Vec<_> =
+        ["01.iso", "02.iso"].map(|name| (name.into(), Some(b"mine".to_vec()))).into();
+    assert_eq!(inside(&into), left[usize::from(!has_birth)..]);
+}
+
+/// What cannot be taken away is told, and where it is.
+#[test]
+fn what_is_left_is_told() {
+    for (case, is_sent) in [
+        ("closed", true),
+        ("closed", false),
+        ("renamed", true),
+        ("renamed and closed", true),
+        ("above closed", true),
+        ("gone", true),
+        ("gone", false),
+    ] {
+        let temp = Temp::new();
+        mode(&temp.at(""), 0o777);
+        let (into, other) = (temp.at("small"), temp.at("other"));
+        let mut command = held_back(&copied(&temp));
+        command.args(["tables", "5", "--into", "small"]).current_dir(temp.at(""));
+        let (child, log) = waiting(&temp, command, |_| into.join("03.iso").is_file());
+        if case.starts_with("renamed") {
+            fs::rename(&into, &other).unwrap();
+        }
+        let folder = if into.is_dir() { &into } else { &other };
+        match case {
+            "closed" | "renamed and closed" => mode(folder, 0o555),
+            "above closed" => mode(&temp.at(""), 0o555),
+            // A file may come before the folder goes.
+            "gone" => while fs::remove_dir_all(folder).is_err() {},
+            _ => {}
+        }
+        if is_sent {
+            send(&child, SIGTERM);
+        }
+        let run = go_on(child, log);
+        let last = run.err.lines().last().unwrap();
+        let at = fs::canonicalize(folder).map_or("".into(), |path| path.display().to_string());
+        let left = if folder.is_dir() { names(folder) } else { Vec::new() };
+        let count = left.len();
+        let told = match case {
+            "closed" | "renamed and closed" => {
+                assert!((3..20).contains(&count), "{case}: {left:?}");
+                format!("{count} masters are left in {at}: permission denied")
+            }
+            "above closed" => {
+                assert!(folder.is_dir() && left.is_empty(), "{left:?}");
+                format!("nothing is left of the masters but the folder {at}: permission denied")
+            }
+            _ => {
+                assert!(!folder.exists(), "{case}: {left:?}");
+                "nothing is left of the masters".into()
+            }
+        };
+        match is_sent {
+            true => {
+                assert_eq!(run.signal, Some(SIGTERM), "{case}: {}", run.err);
+                assert_eq!(last, format!("counter: stopped by a kill (SIGTERM); {told}"), "{case}");
+            }
+            false if case == "gone" => {
+                assert_eq!(run.status, 73, "{}", run.err);
+                assert!(last.ends_with(".iso: no such file"), "{last}");
+            }
+            false => {
+                assert_eq!(run.status, 73, "{}", run.err);
+                let why = format!("small/{:02}.iso: permission denied", count + 1);
+                assert_eq!(last, format!("counter: {why}; {told}"));
+            }
+        }
+        mode(&temp.at(""), 0o777);
     }
 }
 

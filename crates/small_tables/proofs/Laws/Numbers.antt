@@ -17,7 +17,7 @@ use Rattle.small_tables.specs.declared.shape.Entry.{Entry}
 use Rattle.small_tables.specs.declared.shape.Entry.TheVariants.{File, Directory}
 use Rattle.small_tables.specs.Shapes.{tree_of, tree_from, next_in, are_nexts_allowed, each_list, shapes}
 use Rattle.small_tables.specs.Inner.Begun.{shapes_with, largest_next, IsBegun}
-use Rattle.small_tables.specs.Theorem.{number_of, Numbers}
+use Rattle.small_tables.specs.Theorem.{number_behind_root, Numbers}
 use Rattle.small_tables.proofs.Laws.Entries.{length-tree_of, tree-at, next-at, parent-there, parent-further}
 use Rattle.small_tables.proofs.Laws.Begun.{begun-root, root-begun, begun-whole, begun-step, file-begun, directory-begun, below-same, snoc-length}
 
@@ -78,7 +78,7 @@ Ends n p k (d ∷ ds) = (k ≤ d) × ((j : ℕ) → k ≤ j → j < d → larges
 -- of a number for what is left of each
 abbrev product : ℕ → List ℕ → ℕ
 product k [] = 1
-product k (d ∷ ds) = number_of (d - k) * product d ds
+product k (d ∷ ds) = number_behind_root (d - k) * product d ds
 
 module _ (n : ℕ) (p : List Entry) where
   ends-most : (k : ℕ) (ds : List ℕ) → Ends n p k ds → k ≤ n
@@ -110,12 +110,12 @@ AsMany n p ds = IsBegun n p → Ends n p (length p) ds → length (shapes_with n
 
 -- ---- the recurrence
 
-number-none : number_of 0 ≡ 1
+number-none : number_behind_root 0 ≡ 1
 unfolding shapes each_list are_nexts_allowed tree_of tree_from
 number-none = refl
 
 abbrev by_first : ℕ → ℕ
-by_first m = number_of m + sum (map (λ i. number_of i * number_of (m - i)) (range_with_len 0 (suc m)))
+by_first m = number_behind_root m + sum (map (λ i. number_behind_root i * number_behind_root (m - i)) (range_with_len 0 (suc m)))
 
 sum-scaled : (f g : ℕ → ℕ) (w a b c : ℕ) → ((i : ℕ) → i < c → f (a + i) ≡ g (b + i) * w) →
     sum_by f (range_with_len a c) ≡ sum (map g (range_with_len b c)) * w
@@ -138,7 +138,7 @@ module _ (n : ℕ) (p : List Entry) (begun : IsBegun n p) (m d : ℕ) (ds : List
   end-is : largest_next p (length p) ≡ d
   end-is = ends.1 (length p) (omega arith) (omega arith)
 
-  files : length (shapes_with n (p ++ (File ∷ []))) ≡ number_of m * product d ds
+  files : length (shapes_with n (p ++ (File ∷ []))) ≡ number_behind_root m * product d ds
   files =
       let q : List Entry = p ++ (File ∷ []) in
       let left : d - suc (length p) ≡ m = omega arith in
@@ -148,7 +148,7 @@ module _ (n : ℕ) (p : List Entry) (begun : IsBegun n p) (m d : ℕ) (ds : List
 
   directories : (i : ℕ) → i < suc m →
       length (shapes_with n (p ++ (Directory (suc (length p) + i) ∷ [])))
-      ≡ number_of (0 + i) * number_of (m - (0 + i)) * product d ds
+      ≡ number_behind_root (0 + i) * number_behind_root (m - (0 + i)) * product d ds
   directories i h =
       let next : ℕ = suc (length p) + i in
       let q : List Entry = p ++ (Directory next ∷ []) in
@@ -157,7 +157,7 @@ module _ (n : ℕ) (p : List Entry) (begun : IsBegun n p) (m d : ℕ) (ds : List
       let behind-it : d - (suc (length p) + i) ≡ m - (0 + i) = omega arith in
       longer q (next ∷ d ∷ ds) (snoc-length p (Directory next)) (directory-begun n p next begun inside (omega arith) most)
       (rw (snoc-length p (Directory next)) (ends-directory n p next d ds begun.some (omega arith) (omega arith) ends))
-      ∙ rw (snoc-length p (Directory next), in-it, behind-it) (sym (mul_assoc (number_of (0 + i)) (number_of (m - (0 + i))) (product d ds)))
+      ∙ rw (snoc-length p (Directory next), in-it, behind-it) (sym (mul_assoc (number_behind_root (0 + i)) (number_behind_root (m - (0 + i))) (product d ds)))
 
   by-next : length (shapes_with n p) ≡ by_first m * product d ds
   by-next =
@@ -165,8 +165,8 @@ module _ (n : ℕ) (p : List Entry) (begun : IsBegun n p) (m d : ℕ) (ds : List
       let behind = λ (next : ℕ). shapes_with n (p ++ (Directory next ∷ [])) in
       ap length (begun-step n p begun inside)
       ∙ rw (end-is, left, length-append, length-flat_map behind, files)
-      (rw (sum-scaled (λ next. length (behind next)) (λ i. number_of i * number_of (m - i)) (product d ds) (suc (length p)) 0 (suc m) directories)
-      (sym (add-mul (number_of m) (sum (map (λ i. number_of i * number_of (m - i)) (range_with_len 0 (suc m)))) (product d ds))))
+      (rw (sum-scaled (λ next. length (behind next)) (λ i. number_behind_root i * number_behind_root (m - i)) (product d ds) (suc (length p)) 0 (suc m) directories)
+      (sym (add-mul (number_behind_root m) (sum (map (λ i. number_behind_root i * number_behind_root (m - i)) (range_with_len 0 (suc m)))) (product d ds))))
 
 ends-whole : (n : ℕ) (p : List Entry) (ds : List ℕ) → Ends n p n ds → product n ds ≡ 1
 ends-whole n p [] e = refl
@@ -176,7 +176,7 @@ ends-whole n p (d ∷ ds) e =
     rw (d≡, none, number-none, ends-whole n p ds (rw d≡ at e.2))
 
 -- with m entries to come
-module _ (b n : ℕ) (recurs : (m : ℕ) → m < b → number_of (suc m) ≡ by_first m) where
+module _ (b n : ℕ) (recurs : (m : ℕ) → m < b → number_behind_root (suc m) ≡ by_first m) where
   abbrev With : ℕ → Type 0
   With m = (p : List Entry) (ds : List ℕ) → m ≤ b → length p + m ≡ n → AsMany n p ds
 
@@ -213,11 +213,11 @@ root-ends n h = (h, next, refl)
     next : (j : ℕ) → 1 ≤ j → j < n → largest_next (Directory n ∷ []) j ≡ n
     next j a b = rw (below-past (tree_of (Directory n ∷ [])) j j a, parent-there (Directory n ∷ []) 0 j (omega arith) b)
 
-numbers-below : (b m : ℕ) → m < b → number_of (suc m) ≡ by_first m
+numbers-below : (b m : ℕ) → m < b → number_behind_root (suc m) ≡ by_first m
 numbers-below zero m h = absurd (omega arith)
 numbers-below (suc b) m h = ⊎_elim (numbers-below b m) (λ l. last (λ k below. numbers-below b k (omega arith))) (cases_lt m b)
   where
-    last : ((k : ℕ) → k < m → number_of (suc k) ≡ by_first k) → number_of (suc m) ≡ by_first m
+    last : ((k : ℕ) → k < m → number_behind_root (suc k) ≡ by_first k) → number_behind_root (suc m) ≡ by_first m
     last below =
         let n : ℕ = suc (suc m) in
         ap length (sym (begun-root n (omega arith)))
@@ -228,11 +228,11 @@ numbers-below (suc b) m h = ⊎_elim (numbers-below b m) (λ l. last (λ k below
 pub numbers : Numbers
 numbers =
     let at = λ (m : ℕ). numbers-below (suc m) m (omega arith) in
-    let one : number_of 1 ≡ 2 = at 0 ∙ rw number-none in
-    let two : number_of 2 ≡ 6 = at 1 ∙ rw (number-none, one) in
-    let three : number_of 3 ≡ 22 = at 2 ∙ rw (number-none, one, two) in
-    let four : number_of 4 ≡ 90 = at 3 ∙ rw (number-none, one, two, three) in
-    let five : number_of 5 ≡ 394 = at 4 ∙ rw (number-none, one, two, three, four) in
-    let six : number_of 6 ≡ 1806 = at 5 ∙ rw (number-none, one, two, three, four, five) in
-    let seven : number_of 7 ≡ 8558 = at 6 ∙ rw (number-none, one, two, three, four, five, six) in
+    let one : number_behind_root 1 ≡ 2 = at 0 ∙ rw number-none in
+    let two : number_behind_root 2 ≡ 6 = at 1 ∙ rw (number-none, one) in
+    let three : number_behind_root 3 ≡ 22 = at 2 ∙ rw (number-none, one, two) in
+    let four : number_behind_root 4 ≡ 90 = at 3 ∙ rw (number-none, one, two, three) in
+    let five : number_behind_root 5 ≡ 394 = at 4 ∙ rw (number-none, one, two, three, four) in
+    let six : number_behind_root 6 ≡ 1806 = at 5 ∙ rw (number-none, one, two, three, four, five) in
+    let seven : number_behind_root 7 ≡ 8558 = at 6 ∙ rw (number-none, one, two, three, four, five, six) in
     (number-none, at, one, two, three, four, five, six, seven)

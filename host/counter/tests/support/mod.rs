@@ -8,15 +8,17 @@ pub mod power;
 use std::collections::BTreeMap;
 use std::ffi::{CStr, OsStr, c_char};
 use std::fs::{self, File, OpenOptions};
-use std::io::Write as _;
+use std::io::{Read as _, Write as _};
 use std::os::fd::FromRawFd;
-use std::os::unix::fs::{FileExt, MetadataExt};
+use std::os::unix::fs::{FileExt, MetadataExt, OpenOptionsExt, PermissionsExt};
 use std::os::unix::process::CommandExt;
 use std::os::unix::process::ExitStatusExt;
 use std::path::{Path, PathBuf};
-use std::process::{Command, Output, Stdio};
+use std::process::{Child, Command, Output, Stdio};
 use std::sync::OnceLock;
 use std::sync::atomic::{AtomicU32, Ordering};
+use std::thread;
+use std::time::Duration;
 
 // A folder --------------------------------------------------------------------------------
 
@@ -142,6 +144,81 @@ pub fn done(command: &str, image: &Path, rest: &[&str]) -> String {
     let run = on(command, image, rest);
     assert_eq!(run.status, 0, "{command} {rest:?}: {}", run.err);
     run.out
+}
+
+/// Who may do what a file's mode lets others do.
+pub fn mode(path: &Path, mode: u32) {
+    fs::set_permissions(path, fs::Permissions::from_mode(mode)).unwrap();
+}
+
+unsafe extern "C" {
+    fn geteuid() -> u32;
+}
+
+/// A copy of the program that everybody may run.
+pub fn copied(temp: &Temp) -> PathBuf {
+    let counter = temp.at("counter");
+    // Not by fs::copy: a child that another test starts meanwhile would hold the copy open, and none could
+    // run it.
+    let copied = Command::new("cp").arg(env!("CARGO_BIN_EXE_counter")).arg(&counter).status();
+    assert!(copied.unwrap().success());
+    mode(&counter, 0o755);
+    counter
+}
+
+/// A program whose user may not do everything: whoever may runs it as another user.
+pub fn held_back(program: &Path) -> Command {
+    const NOBODY: u32 = 65534;
+    let mut command = Command::new(program);
+    if unsafe { geteuid() } == 0 {
+        command.uid(NOBODY);
+    }
+    command
+}
+
+/// A run that waits in the midst of the writing: its log is a pipe, `log`, of which nobody reads what the
+/// pipe cannot hold.
+pub fn waiting(
+    temp: &Temp,
+    mut command: Command,
+    is_there: impl Fn(&Child) -> bool,
+) -> (Child, File) {
+    let pipe = temp.at("log");
+    assert!(Command::new("mkfifo").arg(&pipe).status().unwrap().success());
+    mode(&pipe, 0o666);
+    const O_NONBLOCK: i32 = 0x800;
+    let log = File::options().read(true).custom_flags(O_NONBLOCK).open(&pipe).unwrap();
+    command.stdout(Stdio::piped()).stderr(Stdio::piped()).env("COUNTER_LOG_WRITES", &pipe);
+    let child = command.spawn().unwrap();
+    let mut asleep = 0;
+    for _ in 0..4000 {
+        asleep = if is_there(&child) && sleeps(&child) { asleep + 1 } else { 0 };
+        // Ten looks in a row: then it is the pipe that it waits for.
+        if asleep == 10 {
+            return (child, log);
+        }
+        thread::sleep(Duration::from_millis(5));
+    }
+    panic!("{command:?} does not write");
+}
+
+/// Whether the program waits for something, by the letter behind its name.
+fn sleeps(child: &Child) -> bool {
+    let told = fs::read_to_string(format!("/proc/{}/stat", child.id())).unwrap();
+    told.rsplit(')').next().is_some_and(|rest| rest.starts_with(" S"))
+}
+
+/// Lets it go on to its end.
+pub fn go_on(child: Child, mut log: File) -> Run {
+    let reader = thread::spawn(move || {
+        let mut part = [0; 0x1_0000];
+        while let Ok(1..) | Err(_) = log.read(&mut part) {
+            thread::sleep(Duration::from_millis(1));
+        }
+    });
+    let run = child.wait_with_output().unwrap().into();
+    reader.join().unwrap();
+    run
 }
 
 /// Runs with --json, wants success, gives the document.
@@ -678,7 +755,7 @@ unsafe extern "C" {
     fn kill(process: i32, signal: i32) -> i32;
 }
 
-pub fn send(child: &std::process::Child, signal: i32) {
+pub fn send(child: &Child, signal: i32) {
     unsafe { kill(child.id() as i32, signal) };
 }
 

@@ -3,7 +3,7 @@
 use Rattle.std.proofs.Common.{◌+◌, ◌<◌, ◌≡◌, length, ℕ, arith}
 use Rattle.std.proofs.lemmas.List.{length-set, length-take, length-drop}
 use Rattle.endian.specs.Bytes.{put}
-use Rattle.small_tables.specs.declared.shape.Entry.TheVariants.{File, Directory}
+use Rattle.small_tables.specs.declared.shape.Entry.TheVariants.{Directory}
 use Rattle.small_tables.proofs.Writing.{all, table-long, all-long, part-written, most-bounds, most-is}
 use Rattle.small_tables.proofs.Writing.{file-enters, underway-begins, directory-enters, underway-more, underway-ends}
 use Rattle.small_tables.proofs.tables.+write_each.Goals as goal
@@ -36,8 +36,7 @@ pub write_each-at-requires : goal.write_each-at-requires
 write_each-at-requires t c =
     let within : c.args.k < length c.args.shape.now = omega arith in
     let m = file-enters _ _ _ _ c.requires.begun within c.requires.room in
-    let l = length-set c.args.shape.now c.args.k File in
-    (omega (arith, l, c.decreases), (m.begun, (omega (arith, l), (omega (arith, l), m.room))))
+    (simp length-set (omega (arith, c.decreases)), (m.begun, (simp length-set (omega arith), (simp length-set (omega arith), m.room))))
 
 pub overflow_add-next-end : goal.overflow_add-next-end
 overflow_add-next-end t c =
