@@ -9,11 +9,6 @@ use Rattle.tree.specs.Lookup.{next_of}
 use Rattle.small_tables.specs.declared.shape.Entry.{Entry}
 use Rattle.small_tables.specs.declared.shape.Entry.TheVariants.{File, Directory}
 
--- the entry after all those in a directory
-abbrev pub next_in : Entry → ℕ
-next_in File = 0
-next_in (Directory next) = next
-
 -- ---- a shape's tree
 
 -- the root has no name, entry k the k-th lower-case letter

@@ -3,7 +3,8 @@ ghost use Rattle.std.specs.Prelude.{◌≡◌, ◌+◌, ◌-◌, ◌*◌, ◌<�
 ghost use Rattle.endian.specs.Bytes.{put};
 ghost use Rattle.tree.specs.Table.{parent_of, node_bytes};
 ghost use Rattle.table_writing.specs.Inner.Record.{bytes_of_record};
-ghost use Rattle.small_tables.specs.Shapes.{tree_of, node_of, next_in, parents_next};
+ghost use Rattle.small_tables.specs.Shapes.{tree_of, node_of, parents_next};
+ghost use Rattle.small_tables.specs.Inner.Ends.{next_in};
 ghost use Rattle.small_tables.specs.declared.shape.Entry.TheVariants.{File};
 ghost use Rattle.small_tables.specs.Tables.{table_of};
 

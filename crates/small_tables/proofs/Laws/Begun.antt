@@ -15,7 +15,8 @@ use Rattle.tree.specs.Lookup.{next_of}
 use Rattle.tree.proofs.Laws.Nesting.{parent-before, below-is_enclosing}
 use Rattle.small_tables.specs.declared.shape.Entry.{Entry}
 use Rattle.small_tables.specs.declared.shape.Entry.TheVariants.{File, Directory}
-use Rattle.small_tables.specs.Shapes.{next_in, node_of, tree_of, parents_next, is_next_allowed, are_nexts_allowed, each_entry, each_list, shapes}
+use Rattle.small_tables.specs.Shapes.{node_of, tree_of, parents_next, is_next_allowed, are_nexts_allowed, each_entry, each_list, shapes}
+use Rattle.small_tables.specs.Inner.Ends.{next_in}
 use Rattle.small_tables.specs.Inner.Begun.{shapes_with, largest_next, IsBegun}
 use Rattle.small_tables.proofs.Laws.Entries.{length-tree_of, tree-at, encloses-at, next-at}
 use Rattle.small_tables.proofs.Laws.Lists.{range-append, list_all-range, range-list_all, filter-map-none, filter-flat_map, map-flat_map, flat_map_all, flat_map_same, flat_map-range-none}

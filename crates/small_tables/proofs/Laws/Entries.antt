@@ -6,7 +6,8 @@ use Rattle.tree.specs.Lookup.{next_of}
 use Rattle.tree.proofs.Laws.Nesting.{parent-root, parent-before, parent-here, parent-lower}
 use Rattle.small_tables.specs.declared.shape.Entry.{Entry}
 use Rattle.small_tables.specs.declared.shape.Entry.TheVariants.{File, Directory}
-use Rattle.small_tables.specs.Shapes.{next_in, node_of, tree_from, tree_of}
+use Rattle.small_tables.specs.Shapes.{node_of, tree_from, tree_of}
+use Rattle.small_tables.specs.Inner.Ends.{next_in}
 
 length-tree_from : (k : ℕ) (s : List Entry) → length (tree_from k s) ≡ length s
 unfolding tree_from

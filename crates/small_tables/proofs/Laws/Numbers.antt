@@ -15,7 +15,8 @@ use Rattle.tree.specs.Lookup.{next_of}
 use Rattle.tree.proofs.Laws.Nesting.{ended, parent-lower, below-lt}
 use Rattle.small_tables.specs.declared.shape.Entry.{Entry}
 use Rattle.small_tables.specs.declared.shape.Entry.TheVariants.{File, Directory}
-use Rattle.small_tables.specs.Shapes.{tree_of, tree_from, next_in, are_nexts_allowed, each_list, shapes}
+use Rattle.small_tables.specs.Shapes.{tree_of, tree_from, are_nexts_allowed, each_list, shapes}
+use Rattle.small_tables.specs.Inner.Ends.{next_in}
 use Rattle.small_tables.specs.Inner.Begun.{shapes_with, largest_next, IsBegun}
 use Rattle.small_tables.specs.Theorem.{number_behind_root, Numbers}
 use Rattle.small_tables.proofs.Laws.Entries.{length-tree_of, tree-at, next-at, parent-there, parent-further}

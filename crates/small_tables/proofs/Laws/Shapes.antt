@@ -9,7 +9,8 @@ use Rattle.tree.specs.Table.{empty_root, is_enclosing, parent_of}
 use Rattle.tree.proofs.Laws.Nesting.{parent-before, parent-at-least}
 use Rattle.small_tables.specs.declared.shape.Entry.{Entry}
 use Rattle.small_tables.specs.declared.shape.Entry.TheVariants.{File, Directory}
-use Rattle.small_tables.specs.Shapes.{next_in, tree_of, each_entry, each_list, shapes}
+use Rattle.small_tables.specs.Shapes.{tree_of, each_entry, each_list, shapes}
+use Rattle.small_tables.specs.Inner.Ends.{next_in}
 use Rattle.small_tables.specs.Inner.Begun.{largest_next, IsBegun}
 use Rattle.small_tables.specs.Theorem.{IsShape, EachShape}
 use Rattle.small_tables.proofs.Laws.Entries.{tree-at}
