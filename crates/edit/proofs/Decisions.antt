@@ -21,7 +21,7 @@ use Rattle.opened.specs.Opening.{Disc}
 use Rattle.edit_rules.specs.Change.{written_image, table_verdict, Plan, refused, nothing, change, filled, place_verdict}
 use Rattle.edit_rules.specs.Edits.{plan_behind, plan_verdict, plan_image, plan_number, number_behind}
 use Rattle.edit_rules.proofs.Laws.Behind as behind
-use Rattle.edit.specs.Inner.Decision.{change_with, placing_change, written_with, Fits, value_behind, carried_answer, IsDecided, DecidedAs}
+use Rattle.edit.specs.Inner.Decision.{change_with, nothing_besides, placing_change, written_with, InImage, Fits, value_behind, carried_answer, IsDecided, DecidedAs}
 
 pub plan_behind-first : (a b : Verdict) (p : Plan) → plan_behind (first a b) p ≡ plan_behind a (plan_behind b p)
 plan_behind-first (Ok _) b p = refl
@@ -35,6 +35,16 @@ tests-passed (Err c) x y e = let z : ◌≡◌ {A = ℕ} 0 1 = cc in absurd (ome
 pub tests-refused : {A : Type 0} (v : Verdict) (x : A) (c : Refusal) → value_behind v x ≡ Err c → v ≡ Err c
 tests-refused (Ok _) x c e = let z : ◌≡◌ {A = ℕ} 0 1 = cc in absurd (omega arith)
 tests-refused (Err d) x c e = cc
+
+-- a change with no byte but the table's
+pub nothing-inside : (long : ℕ) → InImage long nothing_besides
+nothing-inside long = record {
+  copied = record { from = λ z. absurd (omega arith); into = λ z. absurd (omega arith) };
+  apart = λ z. absurd (omega arith);
+  zeroed = record { into = λ z. absurd (omega arith) };
+  copy_behind = λ z. absurd (omega arith);
+  lost_behind = λ z. absurd (omega arith);
+}
 
 written_same : (image : List ℕ) (nodes : List Node) (w : Writing) → written_with w (encode nodes) image ≡ written_image (change_with nodes w) image
 unfolding written_with written_image
@@ -66,7 +76,7 @@ module _ (image : List ℕ) (x : Disc) (words room : ℕ) (bytes : List ℕ) whe
   pub write-decided : (k : ℕ) (nodes : List Node) (size : ℕ) (w : Writing) → Fits image room size w → table_verdict (change_with nodes w) x words room ≡ Ok tt → span bytes 0 size ≡ encode nodes →
       IsDecided (change k (change_with nodes w)) image x words room bytes (Ok (decision.Write k size w))
   write-decided k nodes size w f e s = record {
-    fits = (λ z. omega arith, f);
+    fits = (record { into = λ z. omega arith; behind = λ z. absurd (omega arith) }, f);
     carries = record { number = refl; table = s; change = refl };
     answer = sym e;
     after = ap (λ (t : List ℕ). written_with w t image) s ∙ written_same image nodes w ∙ sym (ap (λ (v : Verdict). cond (is_err v) image (written_image (change_with nodes w) image)) e);

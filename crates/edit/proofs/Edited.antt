@@ -133,7 +133,7 @@ module _ (ed : Edit) (image : List ℕ) (words room : ℕ) (bytes clip : List �
       (answered _ _ _ _ _ _ _ k.decided ∙ rw e, k.decided.after ∙ rw e, k.totals ∙ rw e)
 
   -- opening, the team and the plan are the whole edit
-  edit-account_with : IsAccountedFor (plan_behind (first (opening image words) (team_verdict a.team)) (plan_of ed (disc_of image))) image words room bytes clip a (account_with d t') →
+  pub edit-account_with : IsAccountedFor (plan_behind (first (opening image words) (team_verdict a.team)) (plan_of ed (disc_of image))) image words room bytes clip a (account_with d t') →
       (carried_answer d ≡ number_behind (verdict_of ed a image words room) (plan_number (plan_of ed (disc_of image)))) × (carried_image d bytes clip image ≡ image_after ed a image words room) × (t' ≡ totals_after ed a image words room)
   unfolding verdict_of image_after totals_after
   edit-account_with f =

@@ -3,6 +3,7 @@ use Rattle.std.specs.Prelude.{Result, Ok, Err}
 use Rattle.refusal.specs.Refusal.{Verdict, first}
 use Prim.Native.Nat.{ℕ, ◌+◌, ◌-◌, ◌*◌, ◌≤◌, ◌<◌}
 use mathlib.Core.Path.{◌≡◌, refl, sym, ap, ◌∙◌}
+use mathlib.Core.Logic.{inl, inr, ⊎_elim}
 use mathlib.Core.Bool.{false}
 use mathlib.Core.List.{List, ◌++◌}
 use native.Mathlib.Omega.{arith}
@@ -11,8 +12,9 @@ use lib.Dec.{leb}
 use lib.ListN.{length, get_or}
 use Rattle.endian.specs.Bytes.{put, be32_bytes}
 use Rattle.refusal.specs.declared.Refusal.{Refusal}
-use Rattle.refusal.specs.declared.Refusal.TheVariants.{NoSuchEntry, ExpectedFile}
+use Rattle.refusal.specs.declared.Refusal.TheVariants.{NoSuchEntry, ExpectedFile, OverlappingMove}
 use Rattle.refusal.specs.Laws.Chains.{refuse-passed}
+use Rattle.header.specs.Verdicts.{table_end}
 use Rattle.tree.specs.Table.{Node, file, directory, empty_root, encode}
 use Rattle.tree.specs.Lookup.{is_directory}
 use Rattle.tree.specs.Insert.{set_place}
@@ -24,13 +26,13 @@ use Rattle.opened.specs.Inner.Prepared.{IsOpenImage}
 use Rattle.edit.specs.declared.decision.Decision.{Decision}
 use Rattle.edit.specs.declared.decision.Decision.TheVariants as decision
 use Rattle.edit_rules.specs.Change.{change}
-use Rattle.edit_rules.specs.Edits.{file_verdict, relocate_verdict, relocation_change, plan_behind, plan_move, plan_resize, plan_sized}
+use Rattle.edit_rules.specs.Edits.{file_verdict, is_overlapping, relocate_verdict, relocation_change, plan_behind, plan_move, plan_resize, plan_sized}
 use Rattle.edit.specs.declared.file.File.{File}
 use Rattle.edit.specs.Inner.Files.{IsFile, file_with_number, relocation_of}
 use Rattle.edit.specs.Inner.Decision.{InImage, IsDecided, value_behind}
 use Rattle.edit.proofs.Puts.{put-inside}
 use Rattle.edit.proofs.Decisions.{tests-passed, tests-refused, plan_behind-first, behind-passed, behind-refused}
-use Rattle.edit.proofs.Images.{file-lies, new-place, end-in-image}
+use Rattle.edit.proofs.Images.{one-behind, file-lies, new-place, end-in-image}
 
 -- ---- found by its number
 
@@ -77,23 +79,33 @@ placed-table nodes k o n s l m f h e g =
 -- ---- a new place
 
 module _ (image : List ℕ) (words : ℕ) (known : IsOpenImage image words) (k : ℕ) (old : DiscRegion) (here : region_of (get_or (nodes_in image) k empty_root) ≡ old) where
-  ends : 0 < old.size → old.offset + old.size ≤ length image
-  ends z = omega (arith, (rw here at (file-lies image words known k (rw here z))).1, end-in-image image words known)
+  lies : 0 < old.size → (table_end image ≤ old.offset) × (old.offset + old.size ≤ length image)
+  lies z = let l = rw here at (file-lies image words known k (rw here z)) in (l.0, omega (arith, l.1, end-in-image image words known))
+
+  -- the table lies behind the header, and so does what lies behind the table
+  behind : (at : ℕ) → table_end image ≤ at → 0x440 ≤ at
+  behind at h = omega (arith, known.reads.bounds.after-header)
 
   pub relocate-inside : (new : DiscRegion) → relocate_verdict (free_space_of image) old new ≡ Ok tt → InImage (length image) (relocation_of old new)
   relocate-inside new p = record {
     copied = record {
-      from = λ z. omega (arith, ends (omega arith));
+      from = λ z. omega (arith, (lies (omega arith)).1);
       into = λ z. omega (arith, (new-place image words known old new p (omega arith)).1, end-in-image image words known);
     };
-    zeroed = record { into = ends };
+    apart = λ z. ⊎_elim (λ h. inr (omega arith)) (λ h. inl (omega arith)) (one-behind old new (refuse-passed (is_overlapping old new) OverlappingMove _ p).0 (omega arith) (omega arith));
+    zeroed = record { into = λ z. (lies z).1 };
+    copy_behind = λ z. behind new.offset (new-place image words known old new p (omega arith)).0;
+    lost_behind = λ z. behind old.offset (lies z).0;
   }
 
   pub resize-inside : (n lost : ℕ) → lost ≡ old.size - n →
       InImage (length image) (record { old = old; place = record { offset = old.offset; size = n }; kept = 0; lost = record { offset = old.offset + n; size = lost } })
   resize-inside n lost e = record {
     copied = record { from = λ z. absurd (omega arith); into = λ z. absurd (omega arith) };
-    zeroed = record { into = λ z. omega (arith, ends (omega arith)) };
+    apart = λ z. absurd (omega arith);
+    zeroed = record { into = λ z. omega (arith, (lies (omega arith)).1) };
+    copy_behind = λ z. absurd (omega arith);
+    lost_behind = λ z. behind (old.offset + n) (omega (arith, (lies (omega arith)).0));
   }
 
 -- ---- the decisions

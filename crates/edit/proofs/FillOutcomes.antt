@@ -39,7 +39,13 @@ rest-fits image t clip room w k g =
     let n : length (put image w.place.offset clip) ≡ length image = put-length image w.place.offset clip k.into in
     record {
       table = rw (n, offset-kept image t clip room w k g, size-kept image t clip room w k g) g.table;
-      inside = record { copied = record { from = λ z. absurd (omega arith); into = λ z. absurd (omega arith) }; zeroed = rw n g.inside.zeroed };
+      inside = record {
+        copied = record { from = λ z. absurd (omega arith); into = λ z. absurd (omega arith) };
+        apart = λ z. absurd (omega arith);
+        zeroed = rw n g.inside.zeroed;
+        copy_behind = λ z. absurd (omega arith);
+        lost_behind = g.inside.lost_behind;
+      };
     }
 
 module _ (image : List ℕ) (words room : ℕ) (bytes clip : List ℕ) (known : IsOpenImage image words) (k : ℕ) (f : IsFile (nodes_in image) k) (old : DiscRegion)
@@ -72,7 +78,7 @@ module _ (image : List ℕ) (words room : ℕ) (bytes clip : List ℕ) (known : 
       let r : Fits (put image w.place.offset clip) room size (uncopied_writing w) = rw l at (rest-fits image t clip room w c g) in
       let i : carried_image (Ok (decision.Write n size w)) bytes [] image ≡ plan_image sized image = rw (← h.answer) at h.after in
       record {
-        fits = (s.0.into, rw (clipped_image-put image w.place.offset clip) r);
+        fits = (record { into = s.0.into; behind = λ z. omega (arith, s.0.old-table z, h.fits.1.table.behind-header) }, rw (clipped_image-put image w.place.offset clip) r);
         carries = s.2;
         answer = h.answer;
         after =

@@ -4,11 +4,11 @@ use Rattle.refusal.specs.Refusal.{Verdict, first}
 use Rattle.refusal.specs.declared.Refusal.{Refusal}
 use Prim.Native.Nat.{ℕ, zero, suc, ◌+◌, ◌≤◌, ◌<◌, ◌^◌}
 use mathlib.Core.Path.{◌≡◌, refl, sym, ap, ◌∙◌}
-use mathlib.Core.Logic.{⊎_elim}
+use mathlib.Core.Logic.{◌⊎◌, inl, inr, ⊎_elim}
 use mathlib.Core.Bool.{Bool, true, false, cond, ◌&&◌}
 use mathlib.Core.List.{List, [], ◌∷◌, map, tail}
 use native.Mathlib.Omega.{arith}
-use borrow.Author.Tests.{ltb-false, le-ltb, leb-true, eqb-true}
+use borrow.Author.Tests.{ltb-false, lt-ltb, le-ltb, leb-true, eqb-true}
 use lib.Dec.{ltb, leb, eqb}
 use lib.ListN.{length, get_or}
 use Rattle.refusal.specs.declared.Refusal.TheVariants.{LimitOrMemory, NotEnoughSpace, OverlappingMove}
@@ -22,7 +22,7 @@ use Rattle.table_writing.specs.Inner.Measure.{measure_of}
 use Rattle.space.specs.declared.region.DiscRegion.{DiscRegion}
 use Rattle.space.specs.Used.{end_of, used_regions}
 use Rattle.space.specs.Laws.UsedLaws.{lies_within, files_within}
-use Rattle.refusal.specs.Laws.Tests.{and_left, and_right, or_cases}
+use Rattle.refusal.specs.Laws.Tests.{and_left, and_right, or_cases, lt-or-le}
 use Rattle.space.specs.MaxRegionSize.{max_region_size}
 use Rattle.space.specs.Free.{free_regions}
 use Rattle.space.specs.Laws.GrowthLaws.{table-largest, place-free}
@@ -34,6 +34,10 @@ use Rattle.edit_rules.proofs.Laws.PlaceTests.{place-passed, free-byte}
 use Rattle.opened.specs.Inner.Prepared.{IsOpenImage}
 use Rattle.edit.specs.Inner.Decision.{TableFits, placing_change, value_behind}
 use Rattle.edit.proofs.Decisions.{tests-passed}
+
+-- regions that do not overlap lie one behind the other
+pub one-behind : (old new : DiscRegion) → is_overlapping old new ≡ false → 0 < new.size → 0 < old.size → (end_of new ≤ old.offset) ⊎ (end_of old ≤ new.offset)
+one-behind old new e z y = ⊎_elim (λ h. inl (ltb-false old.offset (end_of new) (rw (lt-ltb new.offset (end_of old) h) at e))) (λ h. inr h) (lt-or-le new.offset (end_of old))
 
 -- ---- a file that is not empty lies behind the table and on the disc
 

@@ -21,7 +21,7 @@ use Rattle.edit.specs.declared.decision.Writing.{Writing}
 use Rattle.edit.specs.declared.decision.Decision.TheVariants as decision
 use Rattle.edit.specs.Inner.Decision.{InImage, IsDecided, Judges, placing_change, change_with, nothing_besides, judged_size}
 use Rattle.edit.proofs.Puts.{span-start}
-use Rattle.edit.proofs.Decisions.{tests-passed, tests-refused, refused-decided, write-decided, same_tests}
+use Rattle.edit.proofs.Decisions.{nothing-inside, tests-passed, tests-refused, refused-decided, write-decided, same_tests}
 use Rattle.edit.proofs.Discs.{nodes_are, free_is, new_table}
 use Rattle.edit.specs.declared.file.File.{File}
 use Rattle.edit.specs.Inner.Files.{IsFile, IsFileOf, relocation_of}
@@ -47,7 +47,7 @@ module _ (image : List ℕ) (d : Opened) (m : Means image d) where
     rewrite-decided size after e h =
         let n = new_table image d m (length bytes) no_region r judged size e in
         write-decided image d.disc d.words (length bytes) after 0 d.disc.nodes size nothing_besides
-        (record { table = n.fits; inside = record { copied = record { from = λ z. omega arith; into = λ z. omega arith }; zeroed = record { into = λ z. omega arith } } }) n.passed
+        (record { table = n.fits; inside = nothing-inside (length image) }) n.passed
         (span-start bytes (encode d.disc.nodes) after size h n.held n.length-is)
 
   module _ (room : ℕ) (r : Result ℕ Refusal) (k : ℕ) (x : Writing) (judged : r ≡ judged_size d room x.place) where

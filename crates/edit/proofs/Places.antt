@@ -3,11 +3,11 @@ use Rattle.std.specs.Prelude.{Result, Ok, Err}
 use Rattle.refusal.specs.Refusal.{Verdict}
 use Prim.Native.Nat.{ℕ, ◌+◌, ◌<◌, ◌≤◌}
 use mathlib.Core.Path.{◌≡◌, refl, sym, ap, ◌∙◌}
-use mathlib.Core.Logic.{◌⊎◌, inl, inr, ⊎_elim}
+use mathlib.Core.Logic.{◌⊎◌, inl}
 use mathlib.Core.Bool.{Bool, true, false, cond, ◌||◌}
 use mathlib.Core.List.{List}
 use native.Mathlib.Omega.{arith}
-use borrow.Author.Tests.{ltb-false, lt-ltb, eqb-true}
+use borrow.Author.Tests.{eqb-true}
 use lib.Dec.{leb, eqb}
 use lib.ListN.{length, get_or}
 use Rattle.endian.specs.Bytes.{span}
@@ -15,7 +15,6 @@ use Rattle.endian.specs.Laws.Stored.{length-span}
 use Rattle.refusal.specs.declared.Refusal.{Refusal}
 use Rattle.refusal.specs.declared.Refusal.TheVariants.{OverlappingMove}
 use Rattle.refusal.specs.Laws.Chains.{refuse-passed, first-passed}
-use Rattle.refusal.specs.Laws.Tests.{lt-or-le}
 use Rattle.header.specs.Verdicts.{table_end}
 use Rattle.tree.specs.Table.{Node, file, directory, empty_root, encode, limits}
 use Rattle.tree.specs.Lookup.{is_directory}
@@ -33,8 +32,8 @@ use Rattle.edit_rules.proofs.Laws.PlaceTests.{place-passed}
 use Rattle.edit.specs.Inner.Files.{IsFile}
 use Rattle.edit.specs.declared.decision.Writing.{Writing}
 use Rattle.edit.specs.declared.decision.Decision.TheVariants as decision
-use Rattle.edit.specs.Inner.Decision.{change_with, Carries}
-use Rattle.edit.proofs.Images.{file-lies, new-place, end-in-image}
+use Rattle.edit.specs.Inner.Decision.{change_with, ClipFits, Carries}
+use Rattle.edit.proofs.Images.{one-behind, file-lies, new-place, end-in-image}
 use Rattle.edit.proofs.Stays.{stays-on-disc}
 use Rattle.edit.specs.Inner.Filling.{IsClear, uncopied_writing}
 
@@ -45,10 +44,6 @@ put-there nodes k o n f = ap (λ (x : Node). (region_of x).offset) (set_place-at
     go : (x : Node) → is_directory x ≡ false → (region_of (node_at_place o n x)).offset ≡ o
     go (file nm a b) e = refl
     go (directory nm b) e = let z : ◌≡◌ {A = ℕ} 0 1 = cc in absurd (omega arith)
-
--- regions that do not overlap lie one behind the other
-one-behind : (old new : DiscRegion) → is_overlapping old new ≡ false → 0 < new.size → 0 < old.size → (end_of new ≤ old.offset) ⊎ (end_of old ≤ new.offset)
-one-behind old new e z y = ⊎_elim (λ h. inl (ltb-false old.offset (end_of new) (rw (lt-ltb new.offset (end_of old) h) at e))) (λ h. inr h) (lt-or-le new.offset (end_of old))
 
 -- of a change that gives a file n bytes: nothing is asked where n is 0
 record Lies (image : List ℕ) (c : Change) (n : ℕ) : Type 0 where
@@ -78,8 +73,8 @@ clear image c n words room size bytes w l v t s e =
 module _ (image : List ℕ) (words : ℕ) (known : IsOpenImage image words) (k : ℕ) (f : IsFile (nodes_in image) k) (old : DiscRegion) (here : region_of (get_or (nodes_in image) k empty_root) ≡ old) (n : ℕ) where
   -- ---- where the file stays
 
-  old-lies : 0 < old.size → end_of old ≤ length image
-  old-lies z = omega (arith, (rw here at (file-lies image words known k (rw here z))).1, end-in-image image words known)
+  old-lies : 0 < old.size → (table_end image ≤ old.offset) × (end_of old ≤ length image)
+  old-lies z = let l = rw here at (file-lies image words known k (rw here z)) in (l.0, omega (arith, l.1, end-in-image image words known))
 
   stays : (leb n old.size || leb n (max_region_size old.offset old.size (free_space_of image))) ≡ true → 0 < n → (table_end image ≤ old.offset) × (old.offset + n ≤ length image)
   stays t z = let l = stays-on-disc image words known k f old here n t z in (l.0, omega (arith, l.1, end-in-image image words known))
@@ -128,9 +123,11 @@ module _ (image : List ℕ) (words : ℕ) (known : IsOpenImage image words) (k :
   p = plan_sized (free_space_of image) (nodes_in image) k old n
 
   -- where nothing is to be resized, the clip has the file's size
-  pub clip-stays : (bytes : List ℕ) → Carries (Ok decision.Nothing) bytes p → (0 < n → old.offset + n ≤ length image) × (p ≡ nothing)
+  pub clip-stays : (bytes : List ℕ) → Carries (Ok decision.Nothing) bytes p → ClipFits (length image) old.offset n × (p ≡ nothing)
   clip-stays bytes =
-      sized (λ (x : Plan). Carries (Ok decision.Nothing) bytes x → (0 < n → old.offset + n ≤ length image) × (x ≡ nothing)) (λ e h. (λ z. omega (arith, old-lies (omega arith)), refl)) (λ c h. absurd h) (λ c l g h. absurd h)
+      sized (λ (x : Plan). Carries (Ok decision.Nothing) bytes x → ClipFits (length image) old.offset n × (x ≡ nothing))
+      (λ e h. (record { into = λ z. omega (arith, old-lies (omega arith)); behind = λ z. omega (arith, old-lies (omega arith), known.reads.bounds.after-header) }, refl)) (λ c h. absurd h)
+      (λ c l g h. absurd h)
 
   pub never-clip : (bytes : List ℕ) (number at : ℕ) → Carries (Ok (decision.Clip number at)) bytes p → ⊥
   never-clip bytes number at = sized (λ (x : Plan). Carries (Ok (decision.Clip number at)) bytes x → ⊥) (λ e h. h) (λ c h. h) (λ c l g h. h)
@@ -146,5 +143,5 @@ module _ (image : List ℕ) (words : ℕ) (known : IsOpenImage image words) (k :
       (λ c l g h v. (
         clear image c n words room size bytes w l v h.table held h.change,
         g ∙ ap (λ (x : Change). x.place.offset) h.change,
-        record { number = refl; table = h.table; old = ap (λ (x : Change). x.old) h.change; place = ap (λ (x : Change). x.place) h.change },
+        record { number = refl; table = h.table; old = ap (λ (x : Change). x.old) h.change; place = ap (λ (x : Change). x.place) h.change; uncopied = refl },
       ))

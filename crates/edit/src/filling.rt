@@ -4,6 +4,7 @@ ghost use Rattle.edit_rules.specs.Edits as edits_of;
 ghost use Rattle.edit_rules.specs.Edits.{plan_of};
 ghost use Rattle.edit.specs.Inner.Decision.{DecidesWith};
 ghost use Rattle.edit.specs.Inner.Filling as filling_of;
+ghost use Rattle.edit.specs.Inner.Filling.{EachClip};
 
 use crate::decision::{Decision, Writing};
 use crate::file::File;
@@ -31,19 +32,20 @@ fn with_clip(decision: Decision, file: File) -> Decision
 }
 
 // Kept: the disc and the bytes side by side, as in `decide`.
-/// The file of that number becomes the clip: 15, 16, 21 for a clip that no place can hold, then as a resize
-/// to the clip's length. The clip stands beside the decision when that is carried out.
+/// The file of that number becomes a clip of so many bytes: 15, 16, 21 for a clip that no place can hold, then
+/// as a resize to that length. The clip itself is not asked for before the decision is carried out.
 pub fn fill(
     disc: &OpenDisc<'_>,
     bytes: &mut [u8],
     number: u32,
-    clip: &[u8],
+    clip_len: usize,
 ) -> Result<Decision, Refusal>
-    ensures { let plan = plan_of (edits_of.fill_file number clip.now) disc.now.disc in
-        DecidesWith clip.now plan disc.now (length bytes.old) bytes.new result }
+    ensures { EachClip clip_len (λ clip.
+        let plan = plan_of (edits_of.fill_file number clip) disc.now.disc in
+        DecidesWith clip plan disc.now (length bytes.old) bytes.new result) }
 {
     let file = finding::file_on_disc(disc, number)?;
-    let Ok(new_size) = u32::try_from(clip.len()) else {
+    let Ok(new_size) = u32::try_from(clip_len) else {
         return Err(Refusal::NotEnoughSpace);
     };
     let decision = resizing::resize(disc, bytes, file, new_size)?;

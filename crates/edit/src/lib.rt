@@ -31,6 +31,8 @@ pub use calls::{
 pub use decision::{Decision, Span, Writing, finish};
 pub use list::{Turn, apply_all};
 pub use new_entry::NewEntry;
-pub use pipeline::{Edit, copy_part, decide, done, enter, judge, judge_image, run, table_part};
+pub use pipeline::{
+    Edit, copy_part, decide, done, enter, enter_fill, judge, judge_image, run, table_part,
+};
 pub use place_edit::PlaceEdit;
 pub use table_writing::Kind;

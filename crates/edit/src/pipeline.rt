@@ -4,6 +4,7 @@ ghost use Rattle.endian.specs.Bytes.{AllBytes};
 ghost use Rattle.opened.specs.Opening.{opening, disc_of};
 ghost use Rattle.refusal.specs.Refusal.{first};
 ghost use Rattle.totals.specs.Totals.{team_verdict};
+ghost use Rattle.edit_rules.specs.Edits as edits;
 ghost use Rattle.edit_rules.specs.Edits.{account, plan_behind, plan_of, number_behind};
 ghost use Rattle.edit_rules.specs.Promise.{loan, only_verdict, IsEdited};
 ghost use Rattle.ledger.specs.Runs.{IsPassable};
@@ -12,6 +13,7 @@ ghost use Rattle.edit.specs.Inner.Accounting.{IsForeseen, IsCopied, IsTabled};
 ghost use Rattle.edit.specs.Inner.Decision.{Judges};
 ghost use Rattle.edit.specs.Asked.{edit_of, place_edit_of, IsPlaceEdit};
 ghost use Rattle.edit.specs.Inner.Decides.{IsEditDecided, clip_of};
+ghost use Rattle.edit.specs.Inner.Filling.{EachClip};
 
 use crate::decision::{Decision, Span};
 use crate::new_entry::NewEntry;
@@ -76,7 +78,7 @@ pub fn decide(disc: &OpenDisc<'_>, bytes: &mut [u8], edit: Edit<'_>) -> Result<D
         Edit::Rewrite => moving::rewrite(disc, bytes),
         Edit::Move { file, offset } => moving::move_file(disc, bytes, file, offset),
         Edit::Resize { file, size } => resizing::resize_file(disc, bytes, file, size),
-        Edit::Fill { file, clip } => filling::fill(disc, bytes, file, clip),
+        Edit::Fill { file, clip } => filling::fill(disc, bytes, file, clip.len()),
         Edit::Insert(new) => insertion::insert(disc, bytes, new),
         Edit::MakeDirectories { start, path } => {
             directories::make_directories(disc, bytes, start, path)
@@ -105,6 +107,27 @@ pub fn enter(
     let team = totals::team_number(team)?;
     let decided = decide(disc, bytes, edit);
     account::account(disc, decided, totals, team)
+}
+
+/// As `enter`, of a fill by a clip of so many bytes, whichever they are: so the clip need not be in memory.
+pub fn enter_fill(
+    disc: &OpenDisc<'_>,
+    bytes: &mut [u8],
+    totals: &mut Totals,
+    team: u32,
+    file: u32,
+    clip_len: usize,
+) -> Result<Decision, Refusal>
+    ensures { EachClip clip_len (λ clip.
+        let plan = plan_of (edits.fill_file file clip) disc.now.disc in
+        IsEntered (plan_behind (team_verdict team) plan) disc.now (length bytes.old) bytes.new clip
+        (account totals.old team) (account_with result totals.new)) }
+{
+    // Some image means an open disc.
+    let _ = &disc.table;
+    let charged = totals::team_number(team)?;
+    let decided = filling::fill(disc, bytes, file, clip_len);
+    account::account(disc, decided, totals, charged)
 }
 
 /// What is decided on, once opening is tested too.

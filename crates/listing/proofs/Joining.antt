@@ -3,9 +3,10 @@ use Prim.Native.Nat.{ℕ, ◌+◌, ◌<◌, ◌≤◌, ◌^◌}
 use mathlib.Core.Path.{◌≡◌, refl, sym, ap, ◌∙◌}
 use mathlib.Core.List.{List, [], ◌∷◌, ◌++◌, append_assoc}
 use native.Mathlib.Omega.{arith}
-use lib.ListN.{length, get_or, length-append}
+use lib.ListN.{length, get_or, take, length-append}
+use Rattle.std.proofs.lemmas.List.{take_more, take_all}
 use Rattle.endian.specs.Bytes.{put}
-use Rattle.endian.specs.Laws.Stored.{length-put, put-none}
+use Rattle.endian.specs.Laws.Stored.{length-put, span-put, put-none}
 use Rattle.endian.proofs.Parts.{put-append}
 use Rattle.table.specs.Inner.Texts.{text_at}
 use Rattle.table.proofs.Texts.{text-more}
@@ -47,6 +48,22 @@ appends-two t u v a b bs f g e = appends-as (appends-join f g) e
 
 pub appends-three : (t u v w : TextBuffer) (a b c bs : List ℕ) → Appends t u a → Appends u v b → Appends v w c → a ++ (b ++ c) ≡ bs → Appends t w bs
 appends-three t u v w a b c bs f g h e = appends-as (appends-join f (appends-join g h)) e
+
+-- in front of lent bytes that hold it all
+pub appends-first : (t u : TextBuffer) (bs : List ℕ) → Appends t u bs → t.len ≡ 0 → length t.bytes.now < 2 ^ 63 → u.len ≤ length t.bytes.now → take u.len u.bytes.now ≡ bs
+appends-first t u bs f z s h =
+    let w = rw z at f.wrote in
+    let n : u.len ≡ length bs = omega (arith, w.stop) in
+    let e : u.bytes.now ≡ put t.bytes.now 0 bs = w.laid (omega (arith, n)) (omega (arith, n)) in
+    rw (n, e) (span-put t.bytes.now 0 bs (omega (arith, n)))
+
+-- ---- bytes, each as it is
+
+pub bytes-turn : (bytes : List ℕ) (t u v : TextBuffer) (i : ℕ) → i < length bytes → Appends t u (take i bytes) → Appends u v (get_or bytes i 0 ∷ []) → Appends t v (take (i + 1) bytes)
+bytes-turn bytes t u v i h f g = appends-as (appends-join f g) (sym (take_more bytes i 0 h))
+
+pub bytes-all : (bytes : List ℕ) (t u : TextBuffer) (i : ℕ) → length bytes ≤ i → Appends t u (take i bytes) → Appends t u bytes
+bytes-all bytes t u i h f = appends-as f (take_all i bytes h)
 
 -- ---- a text up to its end
 

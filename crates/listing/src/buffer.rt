@@ -17,7 +17,7 @@ pub struct TextBuffer<'a> {
     pub len: usize,
 }
 
-fn digit(d: u32) -> u8
+fn digit(d: u64) -> u8
     requires { d < 10 }
     ensures { result ≡ 0x30 + d }
 {
@@ -47,6 +47,15 @@ impl<'a> TextBuffer<'a> {
         }
     }
 
+    /// Bytes, each as it is.
+    pub fn push_bytes(&mut self, bytes: &[u8])
+        ensures { Appends self.old self.new bytes.now }
+    {
+        for &byte in bytes {
+            self.push(byte);
+        }
+    }
+
     /// The bytes of a text, up to a zero byte or to its end.
     pub fn push_text(&mut self, text: &[u8])
         ensures { Appends self.old self.new (first_text text.now) }
@@ -60,7 +69,7 @@ impl<'a> TextBuffer<'a> {
     }
 
     /// A number in base ten: the number without its last digit, then that digit.
-    pub fn push_decimal(&mut self, n: u32)
+    pub fn push_decimal(&mut self, n: u64)
         ensures { Appends self.old self.new (base_ten.decimal n) }
     {
         if n < 10 {
@@ -76,6 +85,6 @@ impl<'a> TextBuffer<'a> {
         ensures { Appends self.old self.new (base_ten.number_field n) }
     {
         self.push(b' ');
-        self.push_decimal(n);
+        self.push_decimal(u64::from(n));
     }
 }

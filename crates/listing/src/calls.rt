@@ -84,7 +84,7 @@ fn push_refused(text: &mut TextBuffer<'_>, cause: Refusal)
     ensures { Appends text.old text.new (refused_text cause) }
 {
     text.push_text(b"refused ");
-    text.push_decimal(cause.number());
+    text.push_decimal(u64::from(cause.number()));
     text.push(b'\n');
 }
 

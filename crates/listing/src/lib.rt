@@ -7,4 +7,5 @@ mod entries;
 mod lines;
 mod regions;
 
+pub use buffer::TextBuffer;
 pub use calls::{list, report};

@@ -7,6 +7,9 @@ pub mod FaultsTold
 pub mod Fills
 pub mod GrowthApart
 pub mod Handed
+pub mod JournaledApplied
+pub mod JournaledImages
+pub mod Journals
 pub mod ListAsOne
 pub mod ListImages
 pub mod ListSteps

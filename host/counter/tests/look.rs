@@ -862,7 +862,7 @@ fn a_refusal_is_looked_into_in_no_time() {
         assert_eq!(run.status, number as i32, "{}", run.err);
         assert!(run.err.contains(words), "{words}: {:.300}", run.err);
         println!("{number}: {time:?}; the same image where it opens: {alone:?}");
-        let most = (4 * alone).max(std::time::Duration::from_millis(200));
+        let most = (8 * alone).max(std::time::Duration::from_millis(400));
         assert!(time < most, "{number}: {time:?}");
     }
 }

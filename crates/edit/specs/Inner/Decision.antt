@@ -1,6 +1,6 @@
 -- What an edit decides on before it writes, or why it is refused, and what that does to an image. The new table stands in the working bytes by then.
 -- Assumes nothing: these are definitions.
-use Rattle.std.specs.Prelude.{Result, Ok, Err, ℕ, ◌+◌, ◌<◌, ◌≤◌, ◌^◌, ◌≡◌, List, [], ◌∷◌, length, replicate, if◌then◌else◌, is_err}
+use Rattle.std.specs.Prelude.{Result, Ok, Err, ℕ, ◌+◌, ◌<◌, ◌≤◌, ◌^◌, ◌≡◌, ◌⊎◌, List, [], ◌∷◌, length, replicate, if◌then◌else◌, is_err}
 use Rattle.refusal.specs.Refusal.{Verdict}
 use Rattle.refusal.specs.declared.Refusal.{Refusal}
 use Rattle.endian.specs.Bytes.{put, span}
@@ -63,9 +63,20 @@ pub record TableFits (long room f size new : ℕ) : Type 0 where
   pub held : new ≤ room
   pub small : new < 2 ^ 32
 
+-- n bytes at `at` lie behind the header; nothing is asked where there is no byte
+abbrev pub BehindHeader : ℕ → ℕ → Type 0
+BehindHeader at n = 0 < n → 0x440 ≤ at
+
+-- n bytes here and n bytes there share none
+abbrev pub AreApart : ℕ → ℕ → ℕ → Type 0
+AreApart here there n = 0 < n → (here + n ≤ there) ⊎ (there + n ≤ here)
+
 pub record InImage (long : ℕ) (w : Writing) : Type 0 where
   pub copied : CopyFits long w.old.offset w.place.offset w.kept
+  pub apart : AreApart w.old.offset w.place.offset w.kept
   pub zeroed : ZeroFits long w.lost.offset w.lost.size
+  pub copy_behind : BehindHeader w.place.offset w.kept
+  pub lost_behind : BehindHeader w.lost.offset w.lost.size
 
 pub record Fits (image : List ℕ) (room size : ℕ) (w : Writing) : Type 0 where
   pub table : TableFits (length image) room (fst_offset image) (fst_size image) size
@@ -77,6 +88,11 @@ pub record Fits (image : List ℕ) (room size : ℕ) (w : Writing) : Type 0 wher
 abbrev pub Into : ℕ → ℕ → ℕ → Type 0
 Into long at n = 0 < n → at + n ≤ long
 
+-- a clip of n bytes lies there, behind the header
+pub record ClipFits (long at n : ℕ) : Type 0 where
+  pub into : Into long at n
+  pub behind : BehindHeader at n
+
 -- the image with the clip at its place; most edits have none
 abbrev pub clipped_image : List ℕ → ℕ → List ℕ → List ℕ
 clipped_image image at [] = image
@@ -87,8 +103,8 @@ clipped_image image at (b ∷ clip) = put image at (b ∷ clip)
 abbrev pub CanCarry : List ℕ → ℕ → List ℕ → Result Decision Refusal → Type 0
 CanCarry image room clip (Err c) = Unit {0}
 CanCarry image room clip (Ok decision.Nothing) = Unit {0}
-CanCarry image room clip (Ok (decision.Clip n at)) = Into (length image) at (length clip)
-CanCarry image room clip (Ok (decision.Write n size w)) = Into (length image) w.place.offset (length clip) × Fits (clipped_image image w.place.offset clip) room size w
+CanCarry image room clip (Ok (decision.Clip n at)) = ClipFits (length image) at (length clip)
+CanCarry image room clip (Ok (decision.Write n size w)) = ClipFits (length image) w.place.offset (length clip) × Fits (clipped_image image w.place.offset clip) room size w
 
 abbrev pub carried_verdict : Result Decision Refusal → Verdict
 carried_verdict (Err c) = Err c
@@ -160,6 +176,7 @@ pub record IsUncopied (n size : ℕ) (w : Writing) (bytes : List ℕ) (k : ℕ) 
   pub table : span bytes 0 size ≡ encode c.nodes
   pub old : c.old ≡ w.old
   pub place : c.place ≡ w.place
+  pub uncopied : w.kept ≡ 0
 
 -- what is written is the plan's change, of the plan's entry, and the table in the working bytes that of its tree
 abbrev pub Carries : Result Decision Refusal → List ℕ → Plan → Type 0

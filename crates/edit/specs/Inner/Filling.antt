@@ -1,11 +1,16 @@
 -- What a fill decides on before it writes: what its resize decides on, with the clip. Assumes nothing: these are definitions.
-use Rattle.std.specs.Prelude.{ℕ, ◌+◌, ◌<◌, ◌≤◌, ◌⊎◌, List, length}
+use Rattle.std.specs.Prelude.{ℕ, ◌+◌, ◌<◌, ◌≤◌, ◌≡◌, ◌⊎◌, List, length}
+use Rattle.endian.specs.Bytes.{AllBytes}
 use Rattle.header.specs.Verdicts.{fst_offset, table_end}
 use Rattle.edit.specs.declared.decision.Writing.{Writing}
 use Rattle.edit.specs.declared.decision.Decision.{Decision}
 use Rattle.edit.specs.declared.decision.Decision.TheVariants as decision
 use Rattle.edit.specs.Inner.Decision.{Into}
 use Rattle.edit.specs.declared.file.File.{File}
+
+-- P of each clip of n bytes, of which the number alone is known
+abbrev pub EachClip : ℕ → (List ℕ → Type 0) → Type 0
+EachClip n P = (clip : List ℕ) → AllBytes clip → length clip ≡ n → P clip
 
 -- nothing is copied
 abbrev pub uncopied_writing : Writing → Writing

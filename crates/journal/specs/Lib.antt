@@ -1,0 +1,4 @@
+pub mod Disk
+pub mod Draft
+pub mod Inner
+pub mod Journal

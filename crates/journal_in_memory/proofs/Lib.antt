@@ -1,0 +1,2 @@
+-- What the proofs of the functions cite.
+pub mod Calls

@@ -1,0 +1,3 @@
+-- Definitions that only the tests need.
+pub mod Done
+pub mod Failure
