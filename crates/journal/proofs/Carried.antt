@@ -40,6 +40,23 @@ looks_none s = record {
       record { later = omega arith; nothing_else = λ t d le left. inl left; keeps = λ t d le left. left; seen_too = λ left. left; same_clip = refl };
 }
 
+-- one more call that looks
+pub looks_on : (old mid new : State) → Looks old mid → Looks mid new → Looks old new
+looks_on old mid new first second = record {
+  seen = second.seen ∙ first.seen;
+  no_more = λ d left. first.no_more d (second.no_more d left);
+  time = record {
+    later = omega (arith, first.time.later, second.time.later);
+    nothing_else = λ t d le left. ⊎_elim
+        (λ was. ⊎_elim (λ at_first. inl at_first) (λ here. inl (old.counts_now t d le (first.no_more d here))) (first.time.nothing_else t d le was))
+        (λ here. inr here)
+        (second.time.nothing_else t d (omega (arith, le, first.time.later)) left);
+    keeps = λ t d le left. second.time.keeps t d (omega (arith, le, first.time.later)) (first.time.keeps t d le left);
+    seen_too = λ left. second.time.seen_too (first.time.seen_too left);
+    same_clip = second.time.same_clip ∙ first.time.same_clip;
+  };
+}
+
 -- one after the other
 pub carried_on : (step : Disk → Disk → Type 0) → ((b c d : Disk) → step b c → step c d → step b d) → (old mid new : State) → Carries step old mid
     → Carries step mid new → Carries step old new

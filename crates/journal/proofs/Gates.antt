@@ -1,11 +1,12 @@
 -- A journal of which only the gates are written: all that stands behind them is the same. Assumes nothing.
-use Rattle.std.proofs.Common.{◌≡◌, ◌⊎◌, inl, inr, ⊎_elim, refl, sym, ◌∙◌, ap, ℕ, ◌+◌, ◌-◌, ◌≤◌, ◌==◌, ◌&&◌, ◌||◌, nat_le, true, if◌then◌else◌, List, [], ◌∷◌, length, take, drop, get_or, replicate, arith, length-drop, get_or-drop, drop-drop}
-use Rattle.std.proofs.lemmas.Bool.{and_parts, or_cases, eqb-true, eq-eqb, leb-true}
+use Rattle.std.proofs.Common.{◌≡◌, ◌⊎◌, inl, inr, ⊎_elim, refl, sym, ◌∙◌, ap, ℕ, ◌+◌, ◌-◌, ◌*◌, ◌^◌, ◌≤◌, ◌==◌, ◌&&◌, ◌||◌, nat_le, Bool, true, if◌then◌else◌, List, [], ◌∷◌, length, take, drop, get_or, replicate, arith, length-drop, get_or-drop, drop-drop}
+use Rattle.std.proofs.lemmas.Bool.{and_parts, and_left, or_cases, cases_Bool, eqb-true, eq-eqb, leb-true}
 use Rattle.std.proofs.lemmas.List.{get_or-take}
-use Rattle.endian.specs.Bytes.{put, span}
+use Rattle.endian.specs.Bytes.{put, span, be32}
+use Rattle.endian.specs.Laws.Stored.{be32-drop}
 use Rattle.journal.specs.declared.plan.Step.{Step}
 use Rattle.journal.specs.Disk.{Disk, State, TornEnd, IsOnDisk, with_journal}
-use Rattle.journal.specs.Journal.{number_at, note_in, write_of, writes_of, step_fits, steps_fit, steps_in, record_count, record_after, copying_in, copying_fits, applies, is_open, is_copied, can_write, has_source, IsSettled}
+use Rattle.journal.specs.Journal.{number_at, note_in, write_of, writes_of, step_fits, steps_fit, steps_in, record_count, record_after, copying_in, copying_fits, applies, sum_from, noted_end, is_whole, is_open, is_copied, can_write, has_source, IsSettled}
 use Rattle.journal.proofs.Heads.{SameHead, head_behind, number_same, copying_same, steps_same, record_count_same, owner_same}
 
 -- ---- a write of one gate, cut short or whole
@@ -90,11 +91,39 @@ module _ (j d : List ℕ) (behind : drop 2 j ≡ drop 2 d) (long : 1266 ≤ leng
   steps_fit-behind long_image (s ∷ steps) =
       λ i. (s.len == 0 || (can_write long_image s.at s.len && (s.from == 0 || (nat_le 1266 s.from && nat_le (s.from + s.len) (length-behind i))))) && steps_fit-behind long_image steps i
 
+  word-behind : (k : ℕ) → be32 j (2 + k) ≡ be32 d (2 + k)
+  word-behind k = sym (be32-drop 2 j k) ∙ ap (λ (l : List ℕ). be32 l k) behind ∙ be32-drop 2 d k
+
+  number-behind : (at : ℕ) → 2 ≤ at → number_at j at ≡ number_at d at
+  number-behind at le =
+      let high : 2 + (at - 2) ≡ at = omega arith in
+      let low : 2 + (at - 2 + 4) ≡ at + 4 = omega arith in
+      λ i. rw high at (word-behind (at - 2)) i * 2 ^ 32 + rw low at (word-behind (at - 2 + 4)) i
+
+  -- whether a journal that ends there is whole
+  abbrev whole_to : List ℕ → ℕ → Bool
+  whole_to l end = nat_le 1266 end && nat_le (end + 8) (length l) && number_at l end == sum_from 0 (span l 2 (end - 2))
+
+  whole_to-behind : (end : ℕ) → whole_to j end ≡ whole_to d end
+  whole_to-behind end =
+      ⊎_elim
+      (λ behind_head.
+      let le : 1266 ≤ end = leb-true 1266 end behind_head in
+      λ i. nat_le 1266 end && nat_le (end + 8) (length-behind i) && number-behind end (omega arith) i == sum_from 0 (span-behind 2 (end - 2) (omega arith) i))
+      (λ before. and_left _ _ (and_left _ _ before) ∙ sym (and_left _ _ (and_left _ _ before)))
+      (cases_Bool (nat_le 1266 end))
+
+  is_whole-behind : is_whole j ≡ is_whole d
+  is_whole-behind =
+      let from : number_at j 74 ≡ number_at d 74 = number-behind 74 (omega arith) in
+      let len : number_at j 66 ≡ number_at d 66 = number-behind 66 (omega arith) in
+      (λ i. whole_to j (from i + len i)) ∙ whole_to-behind (noted_end d)
+
   pub applies-behind : (number : ℕ) (image : List ℕ) → applies j number image ≡ applies d number image
   applies-behind number image =
       let owner = owner_same j d same_head number image in
       let steps = ap (steps_fit j (length image)) steps-behind ∙ steps_fit-behind (length image) (steps_in d) in
-      λ i. owner i && copying_fits (length image) (copying-behind i) && steps i && (nat_le (record_count-behind i) 4097 && nat_le (1266 + (record_count-behind i - 1)) (length-behind i))
+      λ i. owner i && copying_fits (length image) (copying-behind i) && steps i && (nat_le (record_count-behind i) 4097 && nat_le (1266 + (record_count-behind i - 1)) (length-behind i)) && is_whole-behind i
 
   pub is_open-behind : get_or j 0 0 ≡ get_or d 0 0 → is_open j ≡ is_open d
   is_open-behind gate = λ i. gate i == 1 && nat_le 1266 (length-behind i)

@@ -4,7 +4,7 @@ use Rattle.std.proofs.lemmas.Bool.{and_parts, false_from_ne_true}
 use Rattle.std.proofs.lemmas.List.{get_or-take, take-take, drop-take}
 use Rattle.endian.specs.Bytes.{span, are_same_bytes}
 use Rattle.endian.specs.Laws.Stored.{be32-same, length-span, same-eq, span_ext}
-use Rattle.journal.specs.Journal.{number_at, copying_in, step_in, steps_in, record_count, is_owner, applies, copying_fits, steps_fit}
+use Rattle.journal.specs.Journal.{number_at, copying_in, step_in, steps_in, record_count, is_owner, head_applies, copying_fits, steps_fit, sum_from, noted_end, is_whole}
 
 -- two heads that agree behind the gates
 pub record SameHead (l m : List ℕ) : Type 0 where
@@ -55,6 +55,12 @@ module _ (l m : List ℕ) (same : SameHead l m) where
   pub record_count_same : record_count l ≡ record_count m
   record_count_same = number_same 18 (omega arith) (omega arith)
 
+  pub noted_end_same : noted_end l ≡ noted_end m
+  noted_end_same =
+      let from = number_same 74 (omega arith) (omega arith) in
+      let len = number_same 66 (omega arith) (omega arith) in
+      λ i. from i + len i
+
   pub owner_same : (number : ℕ) (image : List ℕ) → is_owner l number image ≡ is_owner m number image
   owner_same number image =
       let front = span_ext l m 178 0x428 (omega (arith, same.long_first)) (omega (arith, same.long_second)) (λ i lt. same.each (178 + i) (omega arith) (omega arith)) in
@@ -82,7 +88,7 @@ module _ (head header image : List ℕ) (number : ℕ) (is : header ≡ take 0x4
 
 -- whether a journal can be carried out, as its head tells
 pub applies_by_head : (head journal : List ℕ) (number : ℕ) (image : List ℕ) → head ≡ take 1266 journal → length head ≡ 1266
-    → applies journal number image ≡ (is_owner head number image && copying_fits (length image) (copying_in head) && steps_fit journal (length image) (steps_in head) && (nat_le (record_count head) 4097 && nat_le (1266 + (record_count head - 1)) (length journal)))
+    → head_applies journal number image ≡ (is_owner head number image && copying_fits (length image) (copying_in head) && steps_fit journal (length image) (steps_in head) && (nat_le (record_count head) 4097 && nat_le (1266 + (record_count head - 1)) (length journal)))
 applies_by_head head journal number image is long =
     let same : SameHead head journal = head_of head journal is long in
     let owner = owner_same head journal same number image in
@@ -90,3 +96,10 @@ applies_by_head head journal number image is long =
     let steps = steps_same head journal same in
     let count = record_count_same head journal same in
     sym (λ i. owner i && copying_fits (length image) (copying i) && steps_fit journal (length image) (steps i) && (nat_le (count i) 4097 && nat_le (1266 + (count i - 1)) (length journal)))
+
+-- whether it is whole, as its head tells where to look
+pub whole_by_head : (head journal : List ℕ) → head ≡ take 1266 journal → length head ≡ 1266
+    → is_whole journal ≡ (nat_le 1266 (noted_end head) && nat_le (noted_end head + 8) (length journal) && number_at journal (noted_end head) == sum_from 0 (span journal 2 (noted_end head - 2)))
+whole_by_head head journal is long =
+    let end : noted_end journal ≡ noted_end head = sym (noted_end_same head journal (head_of head journal is long)) in
+    λ i. nat_le 1266 (end i) && nat_le (end i + 8) (length journal) && number_at journal (end i) == sum_from 0 (span journal 2 (end i - 2))

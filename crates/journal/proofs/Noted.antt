@@ -8,11 +8,12 @@ use Rattle.journal.specs.declared.plan.Copying.{Copying}
 use Rattle.journal.specs.declared.plan.Step.{Step}
 use Rattle.journal.specs.declared.draft.Draft.{Draft}
 use Rattle.journal.specs.Disk.{Disk, with_journal}
-use Rattle.journal.specs.Journal.{after, copied, number_at, copying_in, steps_in, write_of, writes_of, writes_in, record_count, record_after, note_in, record_fits, is_owner, can_write, copying_fits, has_source, step_fits, steps_fit, applies, is_open, is_copied, finished, finished_image, opened, opened_disk, will_apply, kept_of}
+use Rattle.journal.specs.Journal.{after, copied, number_at, copying_in, steps_in, write_of, writes_of, writes_in, record_count, record_after, note_in, record_fits, is_owner, can_write, copying_fits, has_source, step_fits, steps_fit, head_applies, applies, sum_from, noted_end, is_whole, is_open, is_copied, finished, finished_image, opened, opened_disk, will_apply, kept_of}
 use Rattle.journal.specs.Draft.{DraftFits, CanWrite, draft_writes, draft_record, kept_after}
-use Rattle.journal.specs.Inner.Noted.{bytes_of, FitInBytes, record_part, parts_of, places_of, copied_gate, numbers_of, head_of, noted}
+use Rattle.journal.specs.Inner.Noted.{number_bytes, summed, bytes_of, FitInBytes, record_part, parts_of, places_of, copied_gate, numbers_of, head_of, noted}
 use Rattle.journal.proofs.Gates.{note-behind}
-use Rattle.journal.proofs.Numbers.{length-bytes_of, number_at-bytes_of}
+use Rattle.journal.proofs.Numbers.{length-number_bytes, length-bytes_of, number_first, number_behind, number_at-bytes_of}
+use Rattle.journal.proofs.Sums.{sum_from-small}
 
 -- ---- parts one behind the other
 
@@ -246,29 +247,82 @@ module _ (d : Draft) (clip rest : List ℕ) where
           ap (λ (c : Copying). if is_copied all_of then image else copied c image) copy_there ∙ copied-once d.copy image in
           λ i. after (writes_there i) (copied_once i)
 
-      applies_there : applies all_of d.number image ≡ true
-      applies_there = and_from _ _ (and_from _ _ (and_from _ _ owned copy_fits) steps_fit_there) record_fits_there
+      head_there : head_applies all_of d.number image ≡ true
+      head_there = and_from _ _ (and_from _ _ (and_from _ _ owned copy_fits) steps_fit_there) record_fits_there
 
       open_there : is_open all_of ≡ true
       open_there = le-leb _ _ (omega (arith, long))
 
+-- ---- the sum behind it
+
+module _ (d : Draft) (clip more : List ℕ) (small : FitInBytes (numbers_of d)) (image : List ℕ) (fits : DraftFits d (length image) (length clip)) (owner : d.header.now ≡ take 0x440 image) where
+  abbrev pub sum_of : List ℕ
+  sum_of = number_bytes (sum_from 0 (summed d clip))
+
+  -- the journal with the sum
+  abbrev pub whole_of : List ℕ
+  whole_of = all_of d clip (sum_of ++ more)
+
+  -- the gates, and what is summed
+  length_summed : 2 + length (summed d clip) ≡ 1 + length (head_of d ++ parts_of d) + length clip
+  length_summed = omega (arith, length-append (head_of d ++ parts_of d) clip)
+
+  end_there : noted_end whole_of ≡ 2 + length (summed d clip)
+  end_there =
+      let from : number_at whole_of 74 ≡ (places_of d).clip = number_there d clip (sum_of ++ more) small 9 (omega arith) in
+      let len : number_at whole_of 66 ≡ d.clip.len = number_there d clip (sum_of ++ more) small 8 (omega arith) in
+      omega (arith, from, len, clip_place d fits.header, fits.clip_len, length_summed)
+
+  summed_there : (end : ℕ) → end ≡ 2 + length (summed d clip) → span whole_of 2 (end - 2) ≡ summed d clip
+  summed_there end is = take_at (summed d clip) (sum_of ++ more) (end - 2) (omega (arith, is))
+
+  sum_there : (end : ℕ) → end ≡ 2 + length (summed d clip) → number_at whole_of end ≡ sum_from 0 (summed d clip)
+  sum_there end is =
+      let front : List ℕ = 1 ∷ copied_gate d ∷ summed d clip in
+      let e : length front + 0 ≡ end = omega (arith, is) in
+      rw e at (number_behind front (sum_of ++ more) 0) ∙ number_first (sum_from 0 (summed d clip)) more (sum_from-small 0 (summed d clip) (omega arith))
+
+  whole_there : is_whole whole_of ≡ true
+  whole_there =
+      let end : ℕ = noted_end whole_of in
+      let held : length whole_of ≡ 2 + length (summed d clip) + (8 + length more) = omega (arith, length-append (summed d clip) (sum_of ++ more), length-append sum_of more, length-number_bytes (sum_from 0 (summed d clip))) in
+      let front : 1266 ≤ end = omega (arith, end_there, length_head d fits.header, length-append (head_of d ++ parts_of d) clip, length-append (head_of d) (parts_of d)) in
+      let sum : number_at whole_of end ≡ sum_from 0 (span whole_of 2 (end - 2)) = sum_there end end_there ∙ ap (sum_from 0) (sym (summed_there end end_there)) in
+      and_from _ _ (and_from _ _ (le-leb _ _ front) (le-leb _ _ (omega (arith, held, end_there)))) (eq-eqb _ _ sum)
+
+  applies_there : applies whole_of d.number image ≡ true
+  applies_there = and_from _ _ (head_there d clip (sum_of ++ more) small image fits owner) whole_there
+
 -- ---- once the gate is opened
 
-open_noted : (d : Draft) (clip journal : List ℕ) → 0 < length journal → opened (noted d clip journal) ≡ all_of d clip (drop (1 + length (head_of d ++ parts_of d ++ clip)) journal)
+-- the sum, and what an older journal left behind it
+abbrev left_behind : Draft → List ℕ → List ℕ → List ℕ
+left_behind d clip journal =
+    let sum : List ℕ = number_bytes (sum_from 0 (summed d clip)) in
+    sum ++ drop (1 + length (head_of d ++ parts_of d ++ clip ++ sum)) journal
+
+-- what is summed while the sum is not yet there
+pub summed_noted : (d : Draft) (clip journal : List ℕ) (n : ℕ) → 0 < length journal → n ≡ length (summed d clip)
+    → span (put journal 1 (head_of d ++ parts_of d ++ clip)) 2 n ≡ summed d clip
+unfolding put
+summed_noted d clip [] n some is = absurd (omega arith)
+summed_noted d clip (gate ∷ journal) n some is = take_at (summed d clip) _ n (sym is)
+
+open_noted : (d : Draft) (clip journal : List ℕ) → 0 < length journal → opened (noted d clip journal) ≡ all_of d clip (left_behind d clip journal)
 unfolding put
 open_noted d clip [] some = absurd (omega arith)
-open_noted d clip (gate ∷ journal) some = refl
+open_noted d clip (gate ∷ journal) some = ap (λ (l : List ℕ). 1 ∷ l) (append_assoc (head_of d ++ parts_of d ++ clip) (number_bytes (sum_from 0 (summed d clip))) _)
 
 -- behind the gates
-behind_noted : (d : Draft) (clip journal : List ℕ) → 0 < length journal → drop 2 (noted d clip journal) ≡ drop 2 (all_of d clip (drop (1 + length (head_of d ++ parts_of d ++ clip)) journal))
+behind_noted : (d : Draft) (clip journal : List ℕ) → 0 < length journal → drop 2 (noted d clip journal) ≡ drop 2 (all_of d clip (left_behind d clip journal))
 unfolding put
 behind_noted d clip [] some = absurd (omega arith)
-behind_noted d clip (gate ∷ journal) some = refl
+behind_noted d clip (gate ∷ journal) some = append_assoc (summed d clip) (number_bytes (sum_from 0 (summed d clip))) _
 
 module _ (d : Draft) (clip : List ℕ) (old mid new : Disk) (looks : new ≡ mid) (is : mid ≡ with_journal old (noted d clip old.journal)) (some : 0 < length old.journal)
     (small : FitInBytes (numbers_of d)) (fits : DraftFits d (length old.image) (length clip)) (owner : d.header.now ≡ take 0x440 old.image) where
   abbrev behind_it : List ℕ
-  behind_it = drop (1 + length (head_of d ++ parts_of d ++ clip)) old.journal
+  behind_it = left_behind d clip old.journal
 
   opened_is : opened (noted d clip old.journal) ≡ all_of d clip behind_it
   opened_is = open_noted d clip old.journal some
@@ -277,7 +331,7 @@ module _ (d : Draft) (clip : List ℕ) (old mid new : Disk) (looks : new ≡ mid
   noted_applies =
       ap (will_apply d.number) (looks ∙ is)
       ∙ ap (λ (j : List ℕ). is_open j && applies j d.number old.image) opened_is
-      ∙ and_from _ _ (open_there d clip behind_it small old.image fits owner) (applies_there d clip behind_it small old.image fits owner)
+      ∙ and_from _ _ (open_there d clip behind_it small old.image fits owner) (applies_there d clip (drop (1 + length (head_of d ++ parts_of d ++ clip ++ number_bytes (sum_from 0 (summed d clip)))) old.journal) small old.image fits owner)
 
   pub noted_comes_to : finished (opened_disk new) ≡ kept_after d clip (kept_of old)
   noted_comes_to =

@@ -19,7 +19,7 @@ length-bytes_of [] = refl
 length-bytes_of (n ∷ ns) = length-append (number_bytes n) (flat_map number_bytes ns) ∙ omega (arith, length-bytes_of ns, length-number_bytes n)
 
 -- the first number
-number_first : (n : ℕ) (rest : List ℕ) → n < 2 ^ 64 → number_at (number_bytes n ++ rest) 0 ≡ n
+pub number_first : (n : ℕ) (rest : List ℕ) → n < 2 ^ 64 → number_at (number_bytes n ++ rest) 0 ≡ n
 unfolding number_bytes be32
 number_first n rest small =
     let high : be32 (number_bytes n ++ rest) 0 ≡ n / 2 ^ 32 = be32-value (n / 2 ^ 32) (omega arith) in
@@ -29,7 +29,7 @@ number_first n rest small =
 be32_behind : (p s : List ℕ) (i : ℕ) → be32 (p ++ s) (length p + i) ≡ be32 s i
 be32_behind p s i = sym (be32-drop (length p) (p ++ s) i) ∙ ap (λ (l : List ℕ). be32 l i) (drop_at p s (length p) refl)
 
-number_behind : (p s : List ℕ) (i : ℕ) → number_at (p ++ s) (length p + i) ≡ number_at s i
+pub number_behind : (p s : List ℕ) (i : ℕ) → number_at (p ++ s) (length p + i) ≡ number_at s i
 number_behind p s i = rw (be32_behind p s i, add_assoc, be32_behind p s (i + 4))
 
 -- a number behind others
@@ -55,7 +55,7 @@ put-bytes_of_more s at ns k le lt =
 
 -- ---- bytes put up to the end
 
-drop-put_all : (s : List ℕ) (at : ℕ) (bs : List ℕ) → at + length bs ≡ length s → drop at (put s at bs) ≡ bs
+pub drop-put_all : (s : List ℕ) (at : ℕ) (bs : List ℕ) → at + length bs ≡ length s → drop at (put s at bs) ≡ bs
 unfolding put
 drop-put_all s at bs long =
     drop_at (take at s) (bs ++ drop (at + length bs) s) at (length-take-le at s (omega arith)) ∙ ap (λ (l : List ℕ). bs ++ l) (drop_all (at + length bs) s (omega arith)) ∙ append-nil bs

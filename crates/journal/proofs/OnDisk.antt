@@ -2,7 +2,7 @@
 use Rattle.std.proofs.Common.{◌≡◌, ◌⊎◌, inl, inr, ⊎_elim, sym, ◌∙◌, ap, subst, ℕ, ◌≤◌, List, arith}
 use Rattle.std.specs.Prelude.{Result, Ok, Err, IfOk}
 use Rattle.journal.specs.Disk.{Disk, State, Outcomes, IsOnDisk, OnlyImage, OnlyJournal, OnlyRecord, LeavesOnly, Looks, Follows}
-use Rattle.journal.specs.Journal.{ComesFrom}
+use Rattle.journal.specs.Journal.{ComesFrom, IsStillRecovered}
 use Rattle.journal.specs.Inner.Carried.{Carries}
 use Rattle.journal.proofs.Carried.{carried-leaves, leaves_none, goes_on, then_on}
 use Rattle.journal.proofs.Recovered.{comes_from_same}
@@ -112,3 +112,8 @@ comes_from_looks number old new on_disk looks = leaves-looks old new (ComesFrom 
 pub comes_from_behind : (number : ℕ) (old mid new : State) → IsOnDisk old → Looks old mid → LeavesOnly mid new (ComesFrom number mid.seen) → LeavesOnly old new (ComesFrom number old.seen)
 comes_from_behind number old mid new on_disk looks later = then_on old mid new (ComesFrom number old.seen) (ComesFrom number mid.seen) (comes_from_looks number old mid on_disk looks) later
     (λ d. subst (λ (b : Disk). ComesFrom number b d) looks.seen)
+
+pub still_looks : (number : ℕ) (old new : State) → Looks old new → LeavesOnly old new (IsStillRecovered number old)
+still_looks number old new looks =
+    let here : (d : Disk) → old.may_leave d → IsStillRecovered number old d = λ d left. (d, inr left, comes_from_same number d) in
+    goes_on old old new (IsStillRecovered number old) (leaves_none old (IsStillRecovered number old) here) looks.time (λ d left. here d (looks.no_more d left))

@@ -5,7 +5,7 @@ use Rattle.endian.specs.Bytes.{span, are_same_bytes}
 use Rattle.endian.specs.Laws.Stored.{get_d-span}
 use Rattle.journal.specs.declared.plan.Copying.{Copying}
 use Rattle.journal.specs.declared.plan.Step.{Step}
-use Rattle.journal.specs.Journal.{number_at, is_owner, applies, can_write, copying_in, steps_in, step_fits, copying_fits, steps_fit, record_fits}
+use Rattle.journal.specs.Journal.{number_at, is_owner, applies, can_write, copying_in, steps_in, step_fits, copying_fits, steps_fit, record_fits, is_whole}
 use Rattle.journal.specs.Disk.{Torn}
 use Rattle.journal.specs.Inner.Carried.{IsCovered, LooseBytes}
 use Rattle.journal.proofs.Copies.{cases_in, torn_none}
@@ -39,7 +39,7 @@ module _ (journal image image' : List ℕ) (number : ℕ) where
 
   applies-kept : length image' ≡ length image → is_owner journal number image' ≡ is_owner journal number image
       → applies journal number image' ≡ applies journal number image
-  applies-kept long owner = λ k. owner k && copying_fits (long k) (copying_in journal) && steps_fit journal (long k) (steps_in journal) && record_fits journal
+  applies-kept long owner = λ k. owner k && copying_fits (long k) (copying_in journal) && steps_fit journal (long k) (steps_in journal) && record_fits journal && is_whole journal
 
   not_kept : (long at n i : ℕ) → IsPlace long at n → at ≤ i → i < at + n → IsKept i → ⊥
   not_kept long at n i place le lt kept = grind arith

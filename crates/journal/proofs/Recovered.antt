@@ -1,9 +1,9 @@
 -- What recovery makes of what a call may leave. Assumes nothing.
-use Rattle.std.proofs.Common.{◌≡◌, ◌≢◌, inl, inr, ⊎_elim, refl, sym, ◌∙◌, ap, subst, ℕ, ◌-◌, ◌<◌, ◌≤◌, ◌==◌, ◌&&◌, nat_le, Bool, true, false, if◌then◌else◌, List, [], ◌∷◌, length, drop, get_or, arith, length-drop}
-use Rattle.std.proofs.lemmas.Bool.{and_parts, and_from, and_left, and_right, cond-true, cond-false, cases_Bool, leb-true, leb-false, lt-leb, eq-eqb, ne_eqb}
+use Rattle.std.proofs.Common.{◌≡◌, ◌≢◌, inl, inr, ⊎_elim, refl, sym, ◌∙◌, ap, subst, ℕ, ◌-◌, ◌<◌, ◌≤◌, ◌==◌, ◌&&◌, ◌||◌, not, nat_le, Bool, true, false, if◌then◌else◌, List, [], ◌∷◌, length, drop, get_or, arith, length-drop}
+use Rattle.std.proofs.lemmas.Bool.{false≢true, and_parts, and_from, and_left, and_right, cond-true, cond-false, cases_Bool, leb-true, leb-false, lt-leb, eq-eqb, ne_eqb}
 use Rattle.endian.specs.Bytes.{span}
 use Rattle.journal.specs.Disk.{Disk, TearsImage, TearsJournal, PutsRecord, TornEnd, with_image, with_record}
-use Rattle.journal.specs.Journal.{after, copied, copying_in, writes_of, writes_in, steps_in, steps_fit, copying_fits, record_count, record_after, is_open, is_copied, is_owner, record_fits, applies, finished, finished_image, recovered, kept_of, opened, opened_disk, will_apply, found_in, ComesFrom, IsBeforeOrAfter}
+use Rattle.journal.specs.Journal.{after, copied, copying_in, writes_of, writes_in, steps_in, steps_fit, copying_fits, record_count, record_after, is_open, is_copied, is_owner, record_fits, head_applies, is_whole, applies, finished, finished_image, recovered, kept_of, opened, opened_disk, will_apply, found_in, ComesFrom, IsBeforeOrAfter}
 use Rattle.journal.specs.declared.recovery.Found.TheVariants.{Nothing, Finished, Another}
 use Rattle.journal.specs.Inner.Carried.{Loose}
 use Rattle.journal.specs.Inner.Head.{EndsAs}
@@ -35,6 +35,20 @@ is_open-short journal short = and_right _ _ (lt-leb 1266 (length journal) short)
 
 pub long_open : (journal : List ℕ) → is_open journal ≡ true → 1266 ≤ length journal
 long_open journal gate = leb-true 1266 (length journal) (and_parts (get_or journal 0 0 == 1) (nat_le 1266 (length journal)) gate).1
+
+-- closed, or as it was noted
+sound-or : (shut whole : Bool) → false ≡ (not shut || whole) → (shut ≡ true) × (whole ≡ false)
+sound-or true whole is = (refl, sym is)
+sound-or false whole is = absurd (false≢true is)
+
+pub unsound : (journal : List ℕ) → false ≡ (not (is_open journal) || is_whole journal) → (is_open journal ≡ true) × (is_whole journal ≡ false)
+unsound journal is = sound-or (is_open journal) (is_whole journal) is
+
+pub sound_whole : (journal : List ℕ) → true ≡ (not (is_open journal) || is_whole journal) → is_open journal ≡ true → is_whole journal ≡ true
+sound_whole journal is gate = sym (ap (λ (b : Bool). not b || is_whole journal) gate) ∙ sym is
+
+pub recovered_unsound : (number : ℕ) (d : Disk) → is_whole d.journal ≡ false → recovered number d ≡ kept_of d
+recovered_unsound number d torn = recovered_another number d (and_right _ _ torn)
 
 -- with the copy on the disk, and without
 finished_image-copied : (journal image : List ℕ) → is_copied journal ≡ true → finished_image journal image ≡ after (writes_in journal) image
@@ -99,7 +113,7 @@ module _ (c d : Disk) (behind : drop 2 c.journal ≡ drop 2 d.journal) (long : 1
 
 module _ (number : ℕ) (d : Disk) (gate : is_open d.journal ≡ true) (can : applies d.journal number d.image ≡ true) where
   parts : (is_owner d.journal number d.image ≡ true) × (copying_fits (length d.image) (copying_in d.journal) ≡ true) × (steps_fit d.journal (length d.image) (steps_in d.journal) ≡ true) × (record_fits d.journal ≡ true)
-  parts = let a = and_parts _ _ can in let b = and_parts _ _ a.0 in let c = and_parts _ _ b.0 in (c.0, c.1, b.1, a.1)
+  parts = let a = and_parts _ _ (and_parts (head_applies d.journal number d.image) _ can).0 in let b = and_parts _ _ a.0 in let c = and_parts _ _ b.0 in (c.0, c.1, b.1, a.1)
 
   pub can_copy : copying_fits (length d.image) (copying_in d.journal) ≡ true
   can_copy = parts.1
@@ -211,10 +225,20 @@ module _ (number : ℕ) (brought carried : Disk) (gate : is_open brought.journal
 pub recovered-opened : (number : ℕ) (d : Disk) → will_apply number d ≡ true → recovered number (opened_disk d) ≡ finished (opened_disk d)
 recovered-opened number d ready = let both = and_parts (is_open (opened d.journal)) (applies (opened d.journal) number d.image) ready in recovered-open number (opened_disk d) both.0 both.1
 
+pub found_in-unsound : (number : ℕ) (d : Disk) → is_open d.journal ≡ true → is_whole d.journal ≡ false → found_in number d ≡ Another
+found_in-unsound number d gate torn =
+    let cannot : applies d.journal number d.image ≡ false = and_right _ _ torn in
+    λ i. if gate i then (if cannot i then Finished else Another) else Nothing
+
 pub found_in-opened : (number : ℕ) (d : Disk) → will_apply number d ≡ true → found_in number (opened_disk d) ≡ Finished
 found_in-opened number d ready =
     let both = and_parts (is_open (opened d.journal)) (applies (opened d.journal) number d.image) ready in
     λ i. if both.0 i then (if both.1 i then Finished else Another) else Nothing
+
+pub whole-opened : (number : ℕ) (d b : Disk) → will_apply number d ≡ true → b ≡ opened_disk d → is_whole b.journal ≡ true
+whole-opened number d b ready is =
+    let applies_then = (and_parts (is_open (opened d.journal)) (applies (opened d.journal) number d.image) ready).1 in
+    ap (λ (e : Disk). is_whole e.journal) is ∙ (and_parts (head_applies (opened d.journal) number d.image) (is_whole (opened d.journal)) applies_then).1
 
 -- a later recovery of it
 pub opened_comes_from : (number : ℕ) (d b c : Disk) → will_apply number d ≡ true → b ≡ opened_disk d → ComesFrom number b c → IsBeforeOrAfter number (kept_of d) (finished (opened_disk d)) c

@@ -1,6 +1,6 @@
 -- The journal as bytes, and what recovery makes of an image with it (docs/DISK.md). Assumes nothing: these are
 -- definitions.
-use Rattle.std.specs.Prelude.{ℕ, ◌+◌, ◌-◌, ◌*◌, ◌^◌, ◌<◌, ◌≡◌, ◌≢◌, ◌⊎◌}
+use Rattle.std.specs.Prelude.{ℕ, ◌+◌, ◌-◌, ◌*◌, ◌%◌, ◌^◌, ◌<◌, ◌≡◌, ◌≢◌, ◌⊎◌}
 use Rattle.std.specs.Prelude.{Bool, true, ◌==◌, ◌&&◌, ◌||◌, nat_le, if◌then◌else◌}
 use Rattle.std.specs.Prelude.{List, [], ◌∷◌, length, replicate, slice_index}
 use Rattle.endian.specs.Bytes.{put, span, be32, are_same_bytes}
@@ -76,6 +76,24 @@ record_after journal text = if record_count journal == 0 then text else span jou
 abbrev pub note_in : List ℕ → List ℕ
 note_in journal = span journal (head_len + (record_count journal - 1)) (number_at journal 26)
 
+-- ---- whether all of it is as it was noted
+
+-- the sum once these bytes have followed; the factor is odd, so that another byte is always another sum
+unfoldable pub sum_from : ℕ → List ℕ → ℕ
+sum_from sum [] = sum
+sum_from sum (byte ∷ bytes) = sum_from ((sum * 0x9E3779B97F4A7C15 + byte + 1) % 2 ^ 64) bytes
+
+-- what is noted ends with the first step's bytes, and behind them stands its sum
+abbrev pub noted_end : List ℕ → ℕ
+noted_end journal = (step_in journal 0).from + (step_in journal 0).len
+
+-- the sum is that of all behind the gates; what an older, longer journal left behind it does not count
+abbrev pub is_whole : List ℕ → Bool
+is_whole journal =
+    nat_le head_len (noted_end journal)
+    && nat_le (noted_end journal + 8) (length journal)
+    && number_at journal (noted_end journal) == sum_from 0 (span journal 2 (noted_end journal - 2))
+
 -- ---- whether a journal is this image's, and can be carried out on it
 
 -- an image of that length, in the file of that number, with that header; the table's size and its maximum in it may be
@@ -116,12 +134,16 @@ most_record = 0x1000
 abbrev pub record_fits : List ℕ → Bool
 record_fits journal = nat_le (record_count journal) (most_record + 1) && nat_le (head_len + (record_count journal - 1)) (length journal)
 
-abbrev pub applies : List ℕ → ℕ → List ℕ → Bool
-applies journal number image =
+-- as its head tells
+abbrev pub head_applies : List ℕ → ℕ → List ℕ → Bool
+head_applies journal number image =
     is_owner journal number image
     && copying_fits (length image) (copying_in journal)
     && steps_fit journal (length image) (steps_in journal)
     && record_fits journal
+
+abbrev pub applies : List ℕ → ℕ → List ℕ → Bool
+applies journal number image = head_applies journal number image && is_whole journal
 
 -- ---- what recovery makes of an image and its record
 

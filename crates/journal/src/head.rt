@@ -1,5 +1,6 @@
 // The head of a journal: what an edit copies and writes, and whose it is.
-ghost use Rattle.std.specs.Prelude.{◌≡◌, ◌+◌, ◌≤◌, ◌<◌, ◌-◌, ◌&&◌, nat_le, List, ℕ, length, take, IsTrue};
+ghost use Rattle.std.specs.Prelude.{◌≡◌, ◌+◌, ◌-◌, ◌≤◌, ◌<◌, ◌&&◌, nat_le, false, List, ℕ, length, take, IsTrue};
+ghost use Rattle.std.specs.Prelude.{IfSome, IfNone};
 ghost use Rattle.journal.specs.Journal as journal_of;
 ghost use Rattle.journal.specs.Journal.{number_at, copying_in, step_in, steps_in};
 ghost use Rattle.journal.specs.Inner.Head.{HeadFits};
@@ -57,6 +58,23 @@ pub fn steps(head: &[u8]) -> [Step; 5]
         step(head, 3),
         step(head, 4),
     ]
+}
+
+/// Where what is noted ends, if the sum behind it lies in a journal of that length.
+pub fn noted_end(head: &[u8], journal_len: usize) -> Option<usize>
+    requires { length head.now ≡ 1266 }
+    ensures inside { IfSome result (λ end.
+        (end ≡ journal_of.noted_end head.now) × (1266 ≤ end) × (end + 8 ≤ journal_len)) }
+    ensures outside { IfNone result (let end = journal_of.noted_end head.now in
+        (nat_le 1266 end && nat_le (end + 8) journal_len) ≡ false) }
+{
+    let clip = step(head, 0);
+    let end = clip.from.checked_add(clip.len)?;
+    let after = end.checked_add(8)?;
+    if end < HEAD || after > journal_len {
+        return None;
+    }
+    Some(end)
 }
 
 /// One more than the bytes of the record that goes with the edit; 0 where none does.
@@ -146,7 +164,7 @@ fn is_owner(head: &[u8], number: u64, header: &[u8], image_len: usize) -> bool
 }
 
 /// Whether a journal of that length, which begins with this head, can be carried out on an image of that length, which
-/// begins with this header, in the file of that number.
+/// begins with this header, in the file of that number, if it is whole.
 pub fn applies(
     head: &[u8],
     journal_len: usize,
@@ -158,7 +176,7 @@ pub fn applies(
     ensures same { (journal image : List ℕ) →
         length journal ≡ journal_len → head.now ≡ take 1266 journal →
         length image ≡ image_len → header.now ≡ take 0x440 image →
-        result ≡ journal_of.applies journal number image }
+        result ≡ journal_of.head_applies journal number image }
     ensures fits { IsTrue result → HeadFits head.now journal_len image_len }
 {
     is_owner(head, number, header, image_len)

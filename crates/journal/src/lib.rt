@@ -10,6 +10,7 @@ mod pieces;
 mod plan;
 mod recovery;
 mod steps;
+mod sum;
 mod whole;
 
 pub use draft::{Bytes, Draft, Span};

@@ -1,9 +1,9 @@
 // A draft written into the journal, behind its closed gate.
-ghost use Rattle.std.specs.Prelude.{◌≡◌, ◌+◌, ◌*◌, ◌≤◌, ◌<◌};
+ghost use Rattle.std.specs.Prelude.{◌≡◌, ◌+◌, ◌-◌, ◌*◌, ◌≤◌, ◌<◌};
 ghost use Rattle.std.specs.Prelude.{true, length, take, drop, OnOk};
-ghost use Rattle.endian.specs.Bytes.{put};
+ghost use Rattle.endian.specs.Bytes.{put, span};
 ghost use Rattle.journal.specs.Disk.{Known, LeavesOnly, HasCause, with_journal};
-ghost use Rattle.journal.specs.Journal.{kept_of, will_apply, finished, opened_disk, note_in};
+ghost use Rattle.journal.specs.Journal.{kept_of, will_apply, finished, opened_disk, note_in, sum_from};
 ghost use Rattle.journal.specs.Journal.{IsSettled, IsBefore, Tells};
 ghost use Rattle.journal.specs.Draft.{DraftFits, kept_after};
 ghost use Rattle.journal.specs.Inner.Carried.{Carries};
@@ -15,6 +15,7 @@ use crate::draft::Draft;
 use crate::files::{Fault, Files};
 use crate::head::{HEAD, HEADER};
 use crate::pieces::note_clip;
+use crate::sum::sum_up_to;
 
 // Where the parts of a draft stand in the journal.
 #[derive(Clone, Copy)]
@@ -159,7 +160,24 @@ fn write_parts<F: Files>(files: &mut F, draft: &Draft<'_>, places: Places) -> Re
     files.write_journal(places.table, draft.table.bytes)
 }
 
-// All of the draft.
+// The sum of all that was noted, behind it.
+fn note_sum<F: Files>(files: &mut F, end: usize, desk: &mut [u8]) -> Result<(), Fault>
+    requires room { 0 < length desk.old }
+    requires place { 1266 ≤ end }
+    requires inside { end ≤ length (F.state files.old).seen.journal }
+    ensures done { OnOk result (Known F.known (let old = (F.state files.old).seen in
+        (F.state files.new).seen ≡ with_journal old
+        (put old.journal end (number_bytes (sum_from 0 (span old.journal 2 (end - 2))))))) }
+    ensures carried { Carries KeepsGate (F.state files.old) (F.state files.new) }
+    ensures cause { HasCause F.known (F.state files.old) (F.state files.new) result }
+{
+    let sum = sum_up_to(files, end, desk)?;
+    let mut bytes = [0; 8];
+    set_number(&mut bytes, 0, sum as usize);
+    files.write_journal(end, &bytes)
+}
+
+// All of the draft, and its sum.
 fn write_draft<F: Files>(files: &mut F, draft: &Draft<'_>, desk: &mut [u8]) -> Result<(), Fault>
     requires room { 4096 ≤ length desk.old }
     requires some { 0 < length (F.state files.old).seen.journal }
@@ -175,11 +193,12 @@ fn write_draft<F: Files>(files: &mut F, draft: &Draft<'_>, desk: &mut [u8]) -> R
     let places = Places::of(draft);
     write_head(files, draft, places)?;
     write_parts(files, draft, places)?;
-    note_clip(files, places.clip, draft.clip.len, desk)
+    note_clip(files, places.clip, draft.clip.len, desk)?;
+    note_sum(files, places.clip + draft.clip.len, desk)
 }
 
 /// Writes the draft behind the closed gate, on the disk at `Ok`. Behind the head stand the record,
-/// the note, the word, the table, the clip.
+/// the note, the word, the table, the clip, and their sum.
 pub fn note<F: Files>(files: &mut F, draft: &Draft<'_>, desk: &mut [u8]) -> Result<(), Fault>
     requires room { 4096 ≤ length desk.old }
     requires some { 0 < length (F.state files.old).seen.journal }

@@ -121,6 +121,7 @@ pub fn note_clip<F: Files>(
     ensures done { OnOk result (Known F.known ((F.state files.new).seen
         ≡ with_journal (F.state files.old).seen
         (put (F.state files.old).seen.journal at (F.state files.old).clip))) }
+    ensures long { OnOk result (at + len ≤ length (F.state files.new).seen.journal) }
     ensures carried { Carries (TearsJournal at len) (F.state files.old) (F.state files.new) }
     ensures cause { HasCause F.known (F.state files.old) (F.state files.new) result }
 {

@@ -1,12 +1,12 @@
 // An edit that is in the journal, finished: after a crash, or now that its gate is opened. Each function makes a few
 // calls, after each of which a crash may come.
-ghost use Rattle.std.specs.Prelude.{ℕ, ◌≡◌, ◌≢◌, ◌+◌, ◌≤◌, ◌<◌, max, true, false, OnOk, IfOk, IsTrue};
+ghost use Rattle.std.specs.Prelude.{ℕ, ◌≡◌, ◌≢◌, ◌+◌, ◌≤◌, ◌<◌, ◌||◌, not, max, true, false, OnOk, IfOk, IsTrue};
 ghost use Rattle.std.specs.Prelude.{[], ◌∷◌, length, take, slice_index};
 ghost use Rattle.endian.specs.Bytes.{put};
 ghost use Rattle.journal.specs.declared.recovery.Found.TheVariants.{Finished, Another};
 ghost use Rattle.journal.specs.Disk.{Known, Looks, LeavesOnly, HasCause, IsOnDisk, TearsJournal, with_image, with_journal, with_record};
 ghost use Rattle.journal.specs.Journal.{kept_of, recovered, finished, found_in, copied, copying_in, is_copied};
-ghost use Rattle.journal.specs.Journal.{writes_in, steps_in, record_count, record_after, after, is_open, applies};
+ghost use Rattle.journal.specs.Journal.{writes_in, steps_in, record_count, record_after, after, is_open, is_whole, applies};
 ghost use Rattle.journal.specs.Journal.{opened_disk, will_apply, IsSettled, ComesFrom, IsStillRecovered, IsBeforeOrAfter};
 ghost use Rattle.journal.specs.Inner.Carried.{Carries, KeepsDraft};
 ghost use Rattle.journal.specs.Inner.Head.{HeadFits, IsPending, EndsAs, SameLengths};
@@ -15,6 +15,7 @@ use crate::files::{Fault, Files};
 use crate::head::{self, HEAD, HEADER};
 use crate::pieces::copy_image;
 use crate::steps::apply;
+use crate::sum;
 
 /// What a recovery found.
 #[derive(Clone, Copy, Debug, PartialEq, Eq)]
@@ -23,7 +24,7 @@ pub enum Found {
     Nothing,
     /// One was, and is finished now.
     Finished,
-    /// The journal is another image's: neither it nor the image was touched.
+    /// The journal is another image's, or bytes of it were changed: neither it nor the image was touched.
     Another,
 }
 
@@ -253,9 +254,11 @@ fn keep_closed<F: Files>(files: &mut F, gate: u8) -> Result<(), Fault>
     write_gate(files, 0, 0)
 }
 
-// The head of the journal, or as much of it as there is.
-fn read_head<F: Files>(files: &mut F, head: &mut [u8]) -> Result<(), Fault>
+// The head of the journal, or as much of it as there is, and whether the gate is open.
+fn read_head<F: Files>(files: &mut F, head: &mut [u8]) -> Result<bool, Fault>
     requires { length head.old ≡ 1266 }
+    ensures gate_open { IfOk result (λ gate_open. Known F.known
+        (gate_open ≡ is_open (F.state files.old).seen.journal)) }
     ensures gate { OnOk result (Known F.known (let journal = (F.state files.old).seen.journal in
         0 < length journal → slice_index journal 0 ≡ slice_index head.new 0)) }
     ensures whole { OnOk result (Known F.known (let journal = (F.state files.old).seen.journal in
@@ -264,11 +267,13 @@ fn read_head<F: Files>(files: &mut F, head: &mut [u8]) -> Result<(), Fault>
     ensures cause { HasCause F.known (F.state files.old) (F.state files.new) result }
 {
     let told = files.journal_len().min(HEAD);
-    files.read_journal(0, &mut head[..told])
+    files.read_journal(0, &mut head[..told])?;
+    Ok(told == HEAD && head[0] == 1)
 }
 
-// Whether the journal with this head can be carried out on the image.
+// Whether the journal with this head, which is whole, can be carried out on the image.
 fn is_ours<F: Files>(files: &mut F, number: u64, head: &[u8]) -> Result<bool, Fault>
+    requires whole { Known F.known (is_whole (F.state files.old).seen.journal ≡ true) }
     requires head { length head.now ≡ 1266 }
     requires same { Known F.known (head.now ≡ take 1266 (F.state files.old).seen.journal) }
     ensures ours { IfOk result (λ ours. Known F.known (let old = (F.state files.old).seen in
@@ -285,9 +290,11 @@ fn is_ours<F: Files>(files: &mut F, number: u64, head: &[u8]) -> Result<bool, Fa
     Ok(head::applies(head, files.journal_len(), number, shown, image_len))
 }
 
-// What is in the journal finished, where all that is read is on the disk.
+// What is in the journal finished, where all that is read is on the disk, and an open journal is whole.
 fn recover<F: Files>(files: &mut F, number: u64, desk: &mut [u8]) -> Result<Found, Fault>
     requires room { 4096 ≤ length desk.old }
+    requires whole { Known F.known (let journal = (F.state files.old).seen.journal in
+        is_open journal ≡ true → is_whole journal ≡ true) }
     requires on_disk { Known F.known (IsOnDisk (F.state files.old)) }
     ensures found { IfOk result (λ found. Known F.known
         (found ≡ found_in number (F.state files.old).seen)) }
@@ -302,8 +309,7 @@ fn recover<F: Files>(files: &mut F, number: u64, desk: &mut [u8]) -> Result<Foun
     ensures cause { HasCause F.known (F.state files.old) (F.state files.new) result }
 {
     let mut head = [0; HEAD];
-    read_head(files, &mut head)?;
-    if files.journal_len() < HEAD || head[0] != 1 {
+    if !read_head(files, &mut head)? {
         keep_closed(files, head[0])?;
         return Ok(Found::Nothing);
     }
@@ -312,6 +318,21 @@ fn recover<F: Files>(files: &mut F, number: u64, desk: &mut [u8]) -> Result<Foun
     }
     finish(files, number, &head, desk)?;
     Ok(Found::Finished)
+}
+
+// Whether the journal is closed, or all of it is as it was noted.
+fn is_sound<F: Files>(files: &mut F, desk: &mut [u8]) -> Result<bool, Fault>
+    requires room { 4096 ≤ length desk.old }
+    ensures sound { IfOk result (λ sound. Known F.known (let journal = (F.state files.old).seen.journal in
+        sound ≡ (not (is_open journal) || is_whole journal))) }
+    ensures looks { Looks (F.state files.old) (F.state files.new) }
+    ensures cause { HasCause F.known (F.state files.old) (F.state files.new) result }
+{
+    let mut head = [0; HEAD];
+    if !read_head(files, &mut head)? {
+        return Ok(true);
+    }
+    sum::is_whole(files, &head, desk)
 }
 
 /// Finishes the edit that the journal holds, if it holds one, and leaves the journal closed. It may crash too, at any
@@ -333,6 +354,9 @@ pub fn resume<F: Files>(files: &mut F, number: u64, desk: &mut [u8]) -> Result<F
     files.sync_image()?;
     files.sync_journal()?;
     files.sync_record()?;
+    if !is_sound(files, desk)? {
+        return Ok(Found::Another);
+    }
     recover(files, number, desk)
 }
 

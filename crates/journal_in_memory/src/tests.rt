@@ -41,12 +41,30 @@ const PARTS: &[u8] = b"counter record after\
     \x01\x02\x03\x04\x05\
     abc";
 
+// The sum of numbers, header and parts.
+const SUM: &[u8] = b"\x65\x01\x9b\x57\xc8\x9a\xcb\x22";
+
 fn joined(rt: &impl Abort, alloc: Global, parts: &[&[u8]]) -> Vec<u8> {
     let mut joined = Vec::new(alloc);
     for part in parts {
         joined.extend_from_slice(part).expect(rt, "memory");
     }
     joined
+}
+
+// The same of a journal, with the sum of all behind the gates.
+fn summed(rt: &impl Abort, alloc: Global, parts: &[&[u8]]) -> Vec<u8> {
+    let mut journal = joined(rt, alloc, parts);
+    let mut sum = 0u64;
+    for byte in journal.iter().skip(2) {
+        sum = sum
+            .wrapping_mul(0x9e37_79b9_7f4a_7c15)
+            .wrapping_add(*byte as u64 + 1);
+    }
+    journal
+        .extend_from_slice(&sum.to_be_bytes())
+        .expect(rt, "memory");
+    journal
 }
 
 // An image of 1280 bytes, a closed journal, and a record.
@@ -237,7 +255,7 @@ fn a_move_with_a_record(rt: HostRuntime) {
     let journal = try_edit(&rt, alloc, &before, &move_draft(header), &after);
     assert_eq!(rt;
         journal,
-        joined(&rt, alloc, &[&[0, 1], NUMBERS, header, PARTS])
+        joined(&rt, alloc, &[&[0, 1], NUMBERS, header, PARTS, SUM])
     );
 }
 
@@ -280,7 +298,7 @@ fn a_cut_edit_is_finished(rt: HostRuntime) {
     copying[0x4a0..0x4a8].fill(9);
     let crashed = Contents {
         image: copying,
-        journal: joined(&rt, alloc, &[&[1, 0], NUMBERS, header, PARTS]),
+        journal: summed(&rt, alloc, &[&[1, 0], NUMBERS, header, PARTS]),
         record_text: copy(&rt, alloc, OLD_RECORD),
     };
     assert_finished(&rt, alloc, &crashed, &after);
@@ -291,7 +309,7 @@ fn a_cut_edit_is_finished(rt: HostRuntime) {
     writing[0x440..0x450].fill(0);
     let crashed = Contents {
         image: writing,
-        journal: joined(&rt, alloc, &[&[1, 1], NUMBERS, header, PARTS]),
+        journal: summed(&rt, alloc, &[&[1, 1], NUMBERS, header, PARTS]),
         record_text: copy(&rt, alloc, OLD_RECORD),
     };
     assert_finished(&rt, alloc, &crashed, &after);
@@ -302,8 +320,8 @@ fn a_closed_journal_is_nothing(rt: HostRuntime) {
     let alloc = rt.alloc();
     let before = before(&rt, alloc);
     let header = header(&before.image);
-    let closed = joined(&rt, alloc, &[&[0, 1], NUMBERS, header, PARTS]);
-    let torn = joined(&rt, alloc, &[&[255, 1], NUMBERS, header, PARTS]);
+    let closed = summed(&rt, alloc, &[&[0, 1], NUMBERS, header, PARTS]);
+    let torn = summed(&rt, alloc, &[&[255, 1], NUMBERS, header, PARTS]);
     let short = joined(&rt, alloc, &[&[1, 1], NUMBERS, &header[1..]]);
     for journal in [&closed, &torn, &short, &Vec::new(alloc)] {
         let crashed = Contents {
@@ -338,7 +356,7 @@ fn another_journal_is_left_alone(rt: HostRuntime) {
     let alloc = rt.alloc();
     let before = before(&rt, alloc);
     let image = &before.image;
-    let journal = joined(&rt, alloc, &[&[1, 0], NUMBERS, header(image), PARTS]);
+    let journal = summed(&rt, alloc, &[&[1, 0], NUMBERS, header(image), PARTS]);
     assert_left_alone(&rt, alloc, NUMBER + 1, image, &journal);
     assert_left_alone(
         &rt,
@@ -353,8 +371,43 @@ fn another_journal_is_left_alone(rt: HostRuntime) {
     assert_left_alone(&rt, alloc, NUMBER, &other_header, &journal);
 
     // the table would go into the header
-    let mut other_step = copy(&rt, alloc, &journal);
-    assert!(rt; other_step.len() > 88);
-    other_step[88] = 0;
+    let mut numbers = copy(&rt, alloc, NUMBERS);
+    assert!(rt; numbers.len() > 86);
+    numbers[86] = 0;
+    let other_step = summed(&rt, alloc, &[&[1, 0], &numbers, header(image), PARTS]);
     assert_left_alone(&rt, alloc, NUMBER, image, &other_step);
+}
+
+#[test]
+fn a_changed_byte_is_noticed(rt: HostRuntime) {
+    let alloc = rt.alloc();
+    let before = before(&rt, alloc);
+    let image = &before.image;
+    let journal = summed(&rt, alloc, &[&[1, 0], NUMBERS, header(image), PARTS]);
+    for at in 2..journal.len() {
+        for change in [1, 0x80, 0xff] {
+            let mut changed = copy(&rt, alloc, &journal);
+            assert!(rt; at < changed.len());
+            changed[at] ^= change;
+            assert_left_alone(&rt, alloc, NUMBER, image, &changed);
+        }
+    }
+    let mut cut = copy(&rt, alloc, &journal);
+    cut.pop();
+    assert_left_alone(&rt, alloc, NUMBER, image, &cut);
+}
+
+#[test]
+fn bytes_of_an_older_journal_do_not_count(rt: HostRuntime) {
+    let alloc = rt.alloc();
+    let before = before(&rt, alloc);
+    let header = header(&before.image);
+    let after = moved(&rt, alloc, &before);
+    let journal = summed(&rt, alloc, &[&[1, 0], NUMBERS, header, PARTS]);
+    let crashed = Contents {
+        image: copy(&rt, alloc, &before.image),
+        journal: joined(&rt, alloc, &[&journal, b"older"]),
+        record_text: copy(&rt, alloc, OLD_RECORD),
+    };
+    assert_finished(&rt, alloc, &crashed, &after);
 }

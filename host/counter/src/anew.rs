@@ -4,15 +4,14 @@
 use crate::account::Turn;
 use crate::call::{Call, Wish, refused};
 use crate::cause::cause;
-use crate::change::Change;
-use crate::disc::{Disc, table_anew};
+use crate::disc::{Disc, table_anew, table_end};
+use crate::explain;
 use crate::failure::{Failure, INPUT_OUTPUT, INTERNAL, Outcome};
 use crate::image::{Desk, Image};
 use crate::json::Json;
 use crate::record::fresh;
 use crate::stored::{self, Departure, departure, first_difference, what_lies_at};
 use crate::text::{counted, grouped};
-use crate::trial::{Trial, try_out};
 
 pub struct Anew {
     /// The table that a rewrite writes, or the number with which a limit refuses it (9).
@@ -142,14 +141,18 @@ impl Altered {
     }
 }
 
-fn altered(change: &Change) -> Altered {
-    let (old, new) = (&change.old, &change.new);
-    let table = &old[..change.old_size as usize];
-    let first = first_difference(old, new).map(|at| change.table + at as u64);
+/// `copy` is the image after it.
+fn altered(image: &Image, copy: &Image, before: &Disc, after: &Disc) -> Altered {
+    let (start, old_size) = before.fst();
+    let end = table_end(&before.opened).max(table_end(&after.opened));
+    let part = |image: &Image| image.bytes()[start as usize..end as usize].to_vec();
+    let (old, new) = (part(image), part(copy));
+    let table = &old[..old_size as usize];
+    let first = first_difference(&old, &new).map(|at| u64::from(start) + at as u64);
     Altered {
-        bytes: old.iter().zip(new).filter(|(old, new)| old != new).count(),
-        first: first.map(|at| (at, what_lies_at(at, change.table, table))),
-        sizes: (change.old_size, change.new_size),
+        bytes: old.iter().zip(&new).filter(|(old, new)| old != new).count(),
+        first: first.map(|at| (at, what_lies_at(at, start.into(), table))),
+        sizes: (old_size, after.opened.fst_size),
     }
 }
 
@@ -157,20 +160,29 @@ fn altered(change: &Change) -> Altered {
 fn tried(table: &[u8], image: &Image, desk: &mut Desk, disc: &Disc) -> Outcome<Rewrite> {
     let turn = Turn { account: fresh(image, desk)?, team: 0 };
     let call = Call::new(&Wish::Rewrite, image, desk)?;
-    match try_out(&Wish::Rewrite, &call, image, desk, disc, turn) {
-        Ok(Trial { change, .. }) if change.new[..change.new_size as usize] == *table => {
-            Ok(Rewrite::Done(altered(&change)))
-        }
-        Ok(_) => {
-            let text = format!("{}: libcounter writes another table than it tells", image.name);
-            Err(Failure::error(INTERNAL, text))
-        }
-        Err(Failure::Error { status: INPUT_OUTPUT, text }) => Ok(Rewrite::Untried(text)),
-        Err(failure @ Failure::Refused { number: 21, .. }) => refusal(failure.because(format!(
+    let mut copy = match image.trial(&[], &[]) {
+        Err(Failure::Error { status: INPUT_OUTPUT, text }) => return Ok(Rewrite::Untried(text)),
+        copy => copy?,
+    };
+    let mut record = turn.account.record;
+    match call.run(copy.bytes_mut(), desk.lend(), &mut record, turn.team) {
+        Ok(()) => {}
+        Err(21) => return refusal(refused(&Wish::Rewrite, 21).because(format!(
             "with no name shared the table has {}, and what lies behind it leaves no room for them",
             counted(table.len(), "byte", "bytes")
         ))),
-        Err(failure) => refusal(failure),
+        Err(number) => {
+            let edit = (&Wish::Rewrite, &call);
+            return refusal(explain::refusal(number, edit, &mut copy, desk, disc, &turn));
+        }
+    }
+    let after = Disc::read(&copy, desk)?;
+    match stored::table(&copy, after.fst()) == table {
+        true => Ok(Rewrite::Done(altered(image, &copy, disc, &after))),
+        false => {
+            let text = format!("{}: libcounter writes another table than it tells", image.name);
+            Err(Failure::error(INTERNAL, text))
+        }
     }
 }
 

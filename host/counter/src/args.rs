@@ -672,12 +672,11 @@ a new record without teams is made of the image first. A refused edit and a dry 
 a text of two lines, and of one more for each team. A symbolic link to it is followed, and its mode is kept. It may not be the image, a clip, a \
 journal, a folder or a special file (64). While an edit uses it, another one that wants it is told to wait \
 (75), or waits with --wait.
-What comes back is in the edit's journal, and in FILE before the journal goes. So an edit that was cut is \
+What comes back is in the edit's journal, and in FILE before the journal is closed. So an edit that was cut is \
 counted when `counter recover` or the next edit finishes it, and only then. If FILE cannot be written then, or \
 somebody changed it, the journal stays (78): `counter recover` tries it again, and with --without-record it \
 leaves FILE as it is. The journal names FILE by its absolute path: an image that is moved takes its journal \
-and its clip along, and FILE stays where it is. A cut can leave a file counter-record.N beside FILE, which is \
-of no use.
+along, and FILE stays where it is. A cut can leave a file counter-record.N beside FILE, which is of no use.
 If used bytes or largest free region in FILE are not the image's, somebody edited without it, or it is \
 another image's: the edit is not begun (65). Then make a new record with --force, or take FILE away. An edit \
 without FILE that left both numbers as they were is not noticed, and not counted. An edit after the \
@@ -703,7 +702,7 @@ behind a | it most likely says that the command before it failed. Where that one
 tell. So rather take a file out of another image with --from than through a |.
 OTHER is read like any image: one that does not open is refused with its number, one with a journal is 78, and it \
 may not be IMAGE itself (64). What follows the last : is PATH, unless a file has the whole name. A CLIP by the \
-name of a journal or of a clip that is kept is not taken (64): the edit would take it away.";
+name of a journal is not taken (64).";
 
 const STATED: &str = "\
 Many masters state just the size of their table, so that every mkdir and add is refused (26). How much more the game \
@@ -724,8 +723,8 @@ It may have 1,024 lines. Then each line is tried, has its journal, is written an
 --record, like an edit by its command. The first that is refused ends the sheet, with its number as exit status: the \
 lines before it are done and stay. Once what is wrong is put right, --from LINE goes on. --dry-run tells up to the first \
 refusal what each line would do, on what the lines before it would leave, and the record then.
-A sheet's journal stays from one line to the next. So wherever a sheet is cut, `counter recover` and the next edit \
-finish the line that was cut and tell which it is, and with which the sheet goes on. `counter sheet` does so too, and \
+Where a sheet is cut in a line, `counter recover` and the next edit finish that line and tell which it is, and with which \
+the sheet goes on. Cut between two lines, the last one that was told is done. `counter sheet` finishes a line too, and \
 then begins with no line of the same sheet unless --from says with which, and not with that one (64): it might have been \
 run already. A sheet is known by its bytes, whatever its file is called.";
 
@@ -774,7 +773,7 @@ Paths are in UTF-8, with --bytes in the image's bytes, and compare and report se
 path is doubled and its line begins with one, as sha256sum has it.
 Give --out and not `>`: a shell empties the file behind `>` before counter begins, so that `counter hash only.iso > \
 only.iso` loses the image. --out makes a new file, and tells its SHA-256, which whoever checks by the manifest must \
-know from elsewhere; no file is overwritten, neither an image nor its journal, clip or record.";
+know from elsewhere; no file is overwritten, neither an image nor its journal or record.";
 
 const REPORT: &str = "\
 The page holds all it shows: verdict, LIST, each file that differs with place, size and SHA-256 before \
@@ -783,10 +782,10 @@ The exit status is that of compare; the page is written in either case. It is gr
 a list that does not cover everything, of images of which no edit was cut.";
 
 const RECOVER: &str = "\
-Where there is no journal, no edit was cut, and the image is not touched. A journal that is torn, or of another \
-image, or of one that was changed since, is not applied (78), and neither it nor the image is touched.
-An edit with --record is counted in its FILE before the journal goes. If FILE cannot be written, the image is \
-what the edit makes of it, and the journal stays (78).";
+Where there is no journal, or a closed one, no edit was cut, and the image is not touched. A journal of another \
+image, or of a version before, is not applied (78), and neither it nor the image is touched.
+An edit with --record is counted in its FILE before the journal is closed. Where somebody changed FILE since, nothing is \
+touched (78). If FILE cannot be written, the image is what the edit makes of it, and the journal stays (78).";
 
 const NEW_MASTER: &str = "\
 LIST is a text file in UTF-8 of at most 16 MiB and 100,000 lines. A line is a path, spaces or tabs, and a size, as \
@@ -820,8 +819,8 @@ The names begin with 1 for every number of entries, so that each wants a DIR of 
 docs/FORMAT.md, 8 KiB, with the table put over its own at 0x440 and the table's size in the header, and nothing else \
 changed: that of 1 entry has 12 bytes, and the other 14 of the small master's stay behind it. A line for each has its paths, a folder's with / at the end, and the root's only \
 where that is alone.
-DIR may hold other files. If one of the names is there, or a journal or a clip beside it, that is told, and nothing is \
-written (73). An error, Ctrl-C, SIGHUP, SIGQUIT and SIGTERM leave nothing, nor a DIR that was made; what cannot be \
+DIR may hold other files. If one of the names is there, or a journal beside it, that is told, and nothing is written \
+(73). An error, Ctrl-C, SIGHUP, SIGQUIT and SIGTERM leave nothing, nor a DIR that was made; what cannot be \
 taken away is told. Once the writing has begun every other signal but SIGKILL waits for the end. The masters are not synced: after SIGKILL or a power cut some may be there, or be cut \
 short. Take them away, and make them again.";
 

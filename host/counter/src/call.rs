@@ -1,17 +1,17 @@
-//! The edits: what is asked on the command line, and the one call of the library that does it. Only the FST
-//! maximum is stated by the program: no call of the library writes it.
+//! The edits: what is asked on the command line, and the one edit that it comes to: as counter-write is asked for it,
+//! and as a call of the library, by which a refusal is explained.
 
 use crate::args::Args;
 use crate::clip::Clip;
-use crate::disc::{A_FOLDER, CLUSTER, TOO_LONG, no_path};
+use crate::disc::{A_FOLDER, CLUSTER, TOO_LONG, a_file_on, no_path};
 use crate::failure::{Failure, Outcome};
-use crate::header::FST_MAXIMUM_AT;
 use crate::image::{Desk, Image};
 use crate::names::{short, text};
 use crate::sheet::{Kind, Line};
 use crate::text::{grouped, number};
 use crate::units::{parts, trouble};
-use counter_sys::{self as counter, Entry, MOST_PATH, Memory, Record};
+use crate::writer::{Lent, digits};
+use counter_sys::{self as counter, MOST_PATH, Memory, Record};
 use std::fs::Metadata;
 use std::path::Path;
 
@@ -83,6 +83,22 @@ impl Wish {
         }
     }
 
+    /// The clip's file, for the program that writes it.
+    pub fn lend_clip(&self) -> Outcome<Option<Lent>> {
+        match self {
+            Wish::Fill(_, clip) => clip.lend().map(Some),
+            _ => Ok(None),
+        }
+    }
+
+    /// How the clip is called.
+    pub fn clip_name(&self) -> Option<&str> {
+        match self {
+            Wish::Fill(_, clip) => Some(&clip.name),
+            _ => None,
+        }
+    }
+
     /// How it is called where it is refused.
     pub fn words(&self) -> String {
         let path = self.path().map(called).unwrap_or_default();
@@ -114,21 +130,10 @@ impl Wish {
     }
 }
 
-/// The same with paths looked up: one call of the library.
+/// The same with paths looked up.
 #[derive(Clone, Copy)]
 pub struct Call<'a> {
     pub what: What<'a>,
-    /// Where it is a line of a sheet: then it is run as that.
-    line: Option<Alone<'a>>,
-}
-
-/// A line of a sheet.
-#[derive(Clone, Copy)]
-struct Alone<'a> {
-    /// The sheet that it makes by itself.
-    sheet: &'a [u8],
-    /// The number of the entry that it makes.
-    new: Option<u32>,
 }
 
 #[derive(Clone, Copy)]
@@ -138,12 +143,10 @@ pub enum What<'a> {
     InsertFolder(u32, &'a [u8]),
     Move(u32, u32),
     Resize(u32, u32),
-    /// With zeros in the place of the clip, until it is written.
+    /// With zeros in the place of the clip.
     Fill(u32, &'a [u8]),
     Rewrite,
     Maximum(u32),
-    /// A line whose path leads nowhere: the library is left to say so.
-    Nothing,
 }
 
 impl<'a> What<'a> {
@@ -180,28 +183,46 @@ impl<'a> Call<'a> {
         if let (Wish::MoveAway(_), What::Move(at, place)) = (wish, &mut what) {
             *place = place_for(*at, image, desk).map_err(|number| refused(wish, number))?;
         }
-        Ok(Call { what, line: None })
+        Ok(Call { what })
     }
 
-    /// The same of a line of a sheet, of which `alone` is the sheet that it makes by itself.
-    pub fn of_line(wish: &'a Wish, alone: &'a [u8], image: &Image, desk: &mut Desk) -> Call<'a> {
-        let mut new = None;
+    /// The same of a line of a sheet. No path of one is longer than 1,024 bytes (9).
+    pub fn of_line(wish: &'a Wish, image: &Image, desk: &mut Desk) -> Outcome<Call<'a>> {
+        let path = wish.path().unwrap_or_default();
+        if path.len() > MOST_PATH {
+            return Err(refused(wish, 9).because(TOO_LONG));
+        }
         let find = |path: &[u8]| {
-            counter::lookup(image.bytes(), &mut desk.lend(), 0, path).map(|found| {
-                if let Entry::Directory { next, .. } = found {
-                    // Behind all that the folder holds.
-                    new = Some(next);
-                }
-                found.number()
-            })
+            counter::lookup(image.bytes(), &mut desk.lend(), 0, path).map(|entry| entry.number())
         };
-        let what = What::of(wish, find).unwrap_or(What::Nothing);
-        Call { what, line: Some(Alone { sheet: alone, new }) }
+        match What::of(wish, find) {
+            Ok(what) => Ok(Call { what }),
+            Err(17) => Err(refused(wish, 17).because(a_file_on(image, desk, path))),
+            Err(number) => Err(refused(wish, number)),
+        }
     }
 
-    /// Whether it is a line of a sheet.
-    pub fn is_line(&self) -> bool {
-        self.line.is_some()
+    /// The words in which counter-write is asked for it.
+    pub fn request(&self, team: u32) -> String {
+        match self.what {
+            What::MakeFolders(path) => format!("edit {team} make-directories {}", digits(path)),
+            What::Insert(parent, name) => {
+                format!("edit {team} insert-file {parent} {}", digits(name))
+            }
+            What::InsertFolder(parent, name) => {
+                format!("edit {team} insert-directory {parent} {}", digits(name))
+            }
+            What::Move(at, to) => format!("edit {team} move {at} {to}"),
+            What::Resize(at, to) => format!("edit {team} resize {at} {to}"),
+            What::Fill(at, _) => format!("edit {team} fill {at}"),
+            What::Rewrite => format!("edit {team} rewrite"),
+            What::Maximum(to) => format!("maximum {to}"),
+        }
+    }
+
+    /// Whether it makes an entry, whose number is told.
+    pub fn makes_entry(&self) -> bool {
+        matches!(self.what, What::MakeFolders(_) | What::Insert(..) | What::InsertFolder(..))
     }
 
     /// The file whose place or bytes it changes, where it is about one.
@@ -212,53 +233,31 @@ impl<'a> Call<'a> {
         }
     }
 
-    /// The same with the clip itself.
-    pub fn with_clip(self, clip: &'a [u8]) -> Call<'a> {
-        let what = match self.what {
-            What::Fill(at, _) => What::Fill(at, clip),
-            other => other,
-        };
-        Call { what, ..self }
-    }
-
-    /// The entry's number in the new table, where the call gives one. The record comes back.
+    /// The same edit by the library, of an image that is written in memory only. The record comes back.
     pub fn run(
         &self,
         image: &mut [u8],
         mut memory: Memory,
         record: &mut Record,
         team: u32,
-    ) -> Result<Option<u32>, u32> {
+    ) -> Result<(), u32> {
         let memory = &mut memory;
-        if let Some(Alone { sheet, new }) = self.line {
-            let run = counter::sheet(image, memory, record, team, sheet);
-            return run.map(|()| new).map_err(|stopped| stopped.number);
-        }
         match self.what {
             What::MakeFolders(path) => {
-                counter::make_directories(image, memory, record, team, 0, path).map(Some)
+                counter::make_directories(image, memory, record, team, 0, path).map(drop)
             }
             What::Insert(parent, name) => {
-                counter::insert_file(image, memory, record, team, parent, name).map(Some)
+                counter::insert_file(image, memory, record, team, parent, name).map(drop)
             }
             What::InsertFolder(parent, name) => {
-                counter::insert_directory(image, memory, record, team, parent, name).map(Some)
+                counter::insert_directory(image, memory, record, team, parent, name).map(drop)
             }
-            What::Move(at, to) => {
-                counter::move_file(image, memory, record, team, at, to).map(|()| None)
-            }
-            What::Resize(at, to) => {
-                counter::resize_file(image, memory, record, team, at, to).map(|()| None)
-            }
-            What::Fill(at, clip) => {
-                counter::fill_file(image, memory, record, team, at, clip).map(|()| None)
-            }
-            What::Rewrite => counter::rewrite(image, memory, record, team).map(|()| None),
-            What::Maximum(to) => {
-                image[FST_MAXIMUM_AT..][..4].copy_from_slice(&to.to_be_bytes());
-                Ok(None)
-            }
-            What::Nothing => Ok(None),
+            What::Move(at, to) => counter::move_file(image, memory, record, team, at, to),
+            What::Resize(at, to) => counter::resize_file(image, memory, record, team, at, to),
+            What::Fill(at, clip) => counter::fill_file(image, memory, record, team, at, clip),
+            What::Rewrite => counter::rewrite(image, memory, record, team),
+            // No call of the library writes it.
+            What::Maximum(_) => Ok(()),
         }
     }
 }

@@ -1,45 +1,76 @@
-//! An edit that was tried is carried out: room looked for, a journal written, the image and the record, each
-//! synced.
+//! An edit that is decided on is carried out by counter-write, once there is room for it.
 
-use crate::args::Args;
-use crate::call::{Call, Wish};
-use crate::change::Change;
-use crate::disk::{self, Watch};
-use crate::failure::{CANNOT_CREATE, CUT, Failure, INPUT_OUTPUT, INTERNAL, Outcome};
-use crate::image::{Desk, Image};
-use crate::journal::{self, Journal, Line, Owner, Plan, Totals};
+use crate::beside::{self, Beside, Line, Note};
+use crate::call::Wish;
+use crate::decision::Decision;
+use crate::disk;
+use crate::failure::{Failure, INPUT_OUTPUT, INTERNAL, Outcome};
+use crate::fault::About;
+use crate::finishing::{self, Finished, How, Opened};
+use crate::image::Image;
 use crate::kept::Kept;
-use crate::names;
-use crate::os::{Access, Mapping};
+use crate::planned::Planned;
 use crate::progress::Progress;
-use crate::recover::{Finished, How, given_up, put_right, still_there, stuck, unrecorded};
 use crate::text::human;
-use crate::{redo, room, signals};
-use counter_sys::Record;
-use std::ffi::OsString;
-use std::fs::File;
-use std::io;
+use crate::writer::{Answer, Fault, For, Lent, On, Writer};
+use crate::{room, signals};
+use std::fs::{self, File};
 use std::path::Path;
 use std::time::Instant;
 
-/// The image to be edited, and the edit of it that was cut and is finished now; for a dry run only to be
-/// read. What is left of a sheet is told, unless the program goes on with that itself.
-pub fn open(path: &Path, dry: bool, goes_on: bool) -> Outcome<(Image, Option<Finished>)> {
-    if dry {
-        return Ok((Image::read(Some(path))?, None));
-    }
-    let image = Image::edit(path)?;
-    let finished = put_right(&image, &How::default())?;
-    if let Some(finished) = &finished {
-        let file = finished.file.as_ref();
-        let file = file.map_or(String::new(), |file| format!("; record written to {file}"));
-        let on = finished.on.as_ref().filter(|_| !goes_on);
-        let on = on.map_or(String::new(), |on| format!("; {on}"));
-        eprintln!("counter: finished an edit that was cut: {}{file}{on}", finished.words);
+/// The image to be edited with its writer, and the edit of it that was cut and is finished now.
+pub fn open(path: &Path, clip: Option<&Lent>) -> Outcome<Opened> {
+    let opened = finishing::open(path, &How::default(), clip)?;
+    if let Some(finished) = &opened.finished {
+        let Finished { words, file, on, .. } = finished;
+        let file =
+            file.as_ref().map_or(String::new(), |file| format!("; record written to {file}"));
+        let on = on.as_ref().map_or(String::new(), |on| format!("; {on}"));
+        eprintln!("counter: finished an edit that was cut: {words}{file}{on}");
         // The next one is not begun yet.
         signals::begin_writing(true);
     }
-    Ok((image, finished))
+    Ok(opened)
+}
+
+/// The image to try an edit on, and a writer that only decides, on what is in it.
+pub fn open_dry(path: &Path, clip: Option<&Lent>) -> Outcome<Opened> {
+    let image = Image::dry(path)?;
+    let file = image.file().ok_or_else(|| Failure::error(INTERNAL, "an edit without a file"))?;
+    let writer = deciding(&image, file, clip)?;
+    Ok(Opened { image, writer, finished: None })
+}
+
+/// A writer that only decides, on what is in this file.
+pub fn deciding(image: &Image, file: &File, clip: Option<&Lent>) -> Outcome<Writer> {
+    let mut writer = Writer::start(For::Decisions(file), image.bytes().len() as u64, clip)?;
+    match writer.answer() {
+        Answer::Ready { .. } => Ok(writer),
+        Answer::Failed(fault) => Err(not_wanted(image, &fault.reason())),
+        Answer::Lost(why) => Err(not_wanted(image, &why)),
+        _ => Err(not_wanted(image, OTHERWISE)),
+    }
+}
+
+/// The writer lets go of an edit that it was told not to make.
+pub fn declined(image: &Image, writer: &mut Writer) -> Outcome<()> {
+    match writer.answer() {
+        Answer::Declined => Ok(()),
+        Answer::Lost(why) => Err(not_wanted(image, &why)),
+        _ => Err(not_wanted(image, OTHERWISE)),
+    }
+}
+
+const OTHERWISE: &str = "counter-write answers otherwise than counter expects";
+
+fn not_wanted(image: &Image, why: &str) -> Failure {
+    Failure::error(INTERNAL, format!("{}: {why}; nothing was written", image.name))
+}
+
+/// What whoever finishes an edit should know of it.
+pub fn note(wish: &Wish, team: u32, kept: Option<&Kept>, line: Option<Line>) -> Note {
+    let (edit, maximum) = (Some(wish.words()), matches!(wish, Wish::Maximum(_)));
+    Note { edit, maximum, team, old: kept.map(Kept::sum), line }
 }
 
 // Before anything is written --------------------------------------------------------------
@@ -50,15 +81,15 @@ const SLACK: u64 = 0x1_0000;
 const MORE_SLACK: u64 = 0x10_0000;
 
 /// Holes, blocks that a reflink copy shares, and every block of a copy-on-write disk take new room once
-/// they are written, and so does the clip that is kept until then; without room nothing is begun.
-pub fn enough_room(image: &Image, change: &Change) -> Outcome<()> {
+/// they are written, and so does the journal, which holds table and clip; without room nothing is begun.
+pub fn enough_room(image: &Image, planned: &Planned) -> Outcome<()> {
     let (Some(file), Some(left)) = (image.file(), image.file().and_then(room::left)) else {
         return Ok(());
     };
     let end = image.bytes().len() as u64;
     let elsewhere = room::copies_on_write(file);
     let (mut needed, mut shared) = (0, 0);
-    for span in change.spans() {
+    for span in planned.spans() {
         if span.is_empty() {
             continue;
         }
@@ -67,14 +98,10 @@ pub fn enough_room(image: &Image, change: &Change) -> Outcome<()> {
         needed += if elsewhere { 0 } else { room::holes(file, span) };
     }
     needed += shared;
-    if elsewhere && change.is_apart() {
-        // The copy is written twice, and the first one's room comes back late.
-        needed += change.brought;
-    }
-    let clip = if change.clip { change.brought.next_multiple_of(BLOCK) } else { 0 };
-    let journal = 2 * change.new.len() as u64 + 2 * BLOCK;
+    let clip = (planned.clip.end - planned.clip.start).next_multiple_of(BLOCK);
+    let journal = planned.table.bytes.len() as u64 + 4 * BLOCK;
     let slack = if shared > 0 { MORE_SLACK } else { SLACK };
-    // A clip that finds no room is told before the image is written; all else has to be sure.
+    // A journal that finds no room is told before the image is written; all else has to be sure.
     let short = needed > 0 && needed + needed / 64 + clip + journal + slack > left;
     if !disk::assumes_room() && (short || clip > left) {
         let text = format!(
@@ -91,179 +118,88 @@ pub fn enough_room(image: &Image, change: &Change) -> Outcome<()> {
 
 // The writing -----------------------------------------------------------------------------
 
-/// An edit that was tried.
+/// An edit that is decided on.
 pub struct Work<'a> {
     pub wish: &'a Wish,
-    pub call: &'a Call<'a>,
-    pub change: Change,
-    /// The record and the team that go in.
-    pub given: (Record, u32),
-    /// What the library answered, and the record that came back.
-    pub answer: (Option<u32>, Record),
-    /// The text of that, for a file that keeps it.
-    pub record: String,
-    /// The line of a sheet that it is.
-    pub line: Option<Line>,
-    /// As what the program begins anew, if a page of the image fails: its own name, and the arguments.
-    pub rescue: Vec<OsString>,
+    pub decision: &'a Decision,
+    /// The line of a sheet that it is, and of how many.
+    pub line: Option<(u32, u32)>,
     /// Since when it is worked at, a sheet's lines before it too.
     pub since: Instant,
 }
 
-/// `recover`, as which the program begins anew.
-pub fn recovery(args: &Args, image: &Image) -> Vec<OsString> {
-    let json = args.json.then(|| "--json".into());
-    let path = image.path().map(OsString::from).unwrap_or_default();
-    [Some("counter".into()), Some("recover".into()), json, Some("--".into()), Some(path)]
-        .into_iter()
-        .flatten()
-        .collect()
-}
-
-/// An edit that is on the disk, with its record. Its journal is there still.
-pub struct Done(Journal);
-
-impl Done {
-    /// Takes the journal away.
-    pub fn end(self) -> Outcome<()> {
-        self.0.remove().map_err(|e| still_there(&self.0, &e))
-    }
-}
-
-/// Clip, journal, copy, the proved call, sync, record. What a cut leaves at any point, recovery finishes.
-/// Where an error does not say that its journal is kept (78), there is none.
+/// Journal, image and record, each synced. What a cut leaves at any point, recovery finishes. Where an error does not
+/// say that its journal is kept (78), nothing was written.
 pub fn carry_out(
-    work: Work,
-    image: &mut Image,
-    desk: &mut Desk,
+    work: &Work,
+    image: &Image,
+    writer: &mut Writer,
     kept: Option<&mut Kept>,
-) -> Outcome<Done> {
-    // Threads that start from here on leave most signals alone too.
+) -> Outcome<()> {
+    let Work { wish, decision, line, since } = work;
+    enough_room(image, &decision.planned)?;
+    if let Some(kept) = &kept {
+        kept.is_unchanged()?;
+    }
     signals::begin_writing(true);
-    let what = work
-        .line
-        .as_ref()
-        .map_or("writing".into(), |line| format!("line {} of {}: writing", line.number, line.of));
-    let progress = Progress::within(work.since, &what, amount(&work.change));
-    let failed = |e: io::Error| Failure::file(INPUT_OUTPUT, Path::new(&image.name), &e);
-    let (Some(file), Some(path)) = (image.file(), image.path()) else {
-        return Err(Failure::error(INTERNAL, "an edit without a file"));
+    if let Some(number) = signals::no_way_back() {
+        let text = format!("{}: {}; nothing was written", image.name, signals::stopped_by(number));
+        return Err(Failure::Signal { number, text });
+    }
+    let what = line.map_or("writing".into(), |(line, of)| format!("line {line} of {of}: writing"));
+    let progress = Progress::within(*since, &what, decision.planned.amount());
+    let edit = wish.words();
+    let about = About {
+        name: &image.name,
+        place: image.path().unwrap_or("".as_ref()),
+        record: kept.as_ref().map(|kept| &*kept.file),
+        clip: wish.clip_name(),
+        edit: &edit,
     };
-    let (file, path) = (file.try_clone().map_err(failed)?, path.to_path_buf());
-    let owner = Owner::new(&file.metadata().map_err(failed)?, image.bytes());
-    let Work { wish, call, change, given, answer, record, line, rescue, .. } = work;
-    let totals = kept.as_ref().map(|kept| kept.totals(record));
-    let mut journal = begin(wish, &file, &path, owner, change, (totals, line), &progress)?;
-    signals::rescue(rescue);
-    match journal.plan.change.is_nothing() {
-        true => signals::no_way_back().map_err(|e| stuck(&file, &path, &journal, &e))?,
-        false => write(call, &file, image, desk, &mut journal, (given, answer), &progress)?,
-    }
-    if let (Some(totals), Some(kept)) = (&journal.plan.totals, kept) {
-        kept.put(totals).map_err(|why| unrecorded(&path, &why))?;
-    }
-    Ok(Done(journal))
-}
-
-/// The image.
-fn write(
-    call: &Call,
-    file: &File,
-    image: &mut Image,
-    desk: &mut Desk,
-    journal: &mut Journal,
-    (given, answer): ((Record, u32), (Option<u32>, Record)),
-    progress: &Progress,
-) -> Outcome<()> {
-    let path = image.path().map(Path::to_path_buf).unwrap_or_default();
-    if journal.plan.change.is_apart() {
-        redo::bring(file, journal, progress).map_err(|e| stuck(file, &path, journal, &e))?;
-    }
-    signals::no_way_back().map_err(|e| stuck(file, &path, journal, &e))?;
-    run(call, image, desk, journal, given, answer).inspect_err(|why| {
-        // The journal of an edit that may have written stays.
-        if why.status() != CUT {
-            given_up(file, journal);
+    writer.go();
+    loop {
+        match writer.answer() {
+            Answer::Progress(bytes) => progress.reach(bytes),
+            Answer::Done => break,
+            Answer::Failed(fault) if is_settled(&fault, about.place, writer) => {
+                return Err(match is_done(work, image, kept.as_deref()) {
+                    true => about.not_closed(&fault),
+                    false => about.not_begun(&fault),
+                });
+            }
+            Answer::Failed(fault) => return Err(about.failed(&fault)),
+            Answer::Lost(why) => return Err(about.lost(&why)),
+            _ => return Err(about.lost(OTHERWISE)),
         }
-    })?;
-    progress.advance(written(&journal.plan.change));
-    write_out(file, &journal.plan.change, progress)
-        .and_then(|()| image.sync())
-        .or_else(|failed| redo::once_more(file, journal, &failed, progress))
-        .map_err(|e| stuck(file, &path, journal, &e))
-}
-
-/// How many bytes the call writes.
-fn written(change: &Change) -> u64 {
-    change.spans().iter().map(|span| span.end - span.start).sum()
-}
-
-/// The same of all steps; each byte is written and then waited for.
-fn amount(change: &Change) -> u64 {
-    let times = u64::from(change.clip) + u64::from(change.is_apart());
-    2 * (times * change.brought + written(change))
-}
-
-fn write_out(file: &File, change: &Change, progress: &Progress) -> io::Result<()> {
-    change.spans().into_iter().try_for_each(|span| disk::write_out(file, span, progress))
-}
-
-/// Writes the clip, if there is one, and the journal. On an error there is neither.
-fn begin(
-    wish: &Wish,
-    file: &File,
-    path: &Path,
-    owner: Owner,
-    change: Change,
-    (totals, line): (Option<Totals>, Option<Line>),
-    progress: &Progress,
-) -> Outcome<Journal> {
-    let hole = change.is_apart() && room::holes(file, change.copy_span()) == change.brought;
-    let (clip, clip_sum) = match wish {
-        Wish::Fill(_, clip) if change.clip => {
-            clip.keep(path, progress).map(|(file, sum)| (Some(file), sum))?
-        }
-        _ => (None, 0),
-    };
-    let plan = Plan { owner, change, hole, clip_sum, totals, line };
-    Journal::start(path, plan, clip).map_err(|e| no_journal(path, &e))
-}
-
-/// The proved call on the image itself. It was tried, so it is not refused now. The clip is the one that
-/// is kept: whatever becomes of the other, the image holds what the journal's sum is of.
-fn run(
-    call: &Call,
-    image: &mut Image,
-    desk: &mut Desk,
-    journal: &Journal,
-    (mut record, team): (Record, u32),
-    answer: (Option<u32>, Record),
-) -> Outcome<()> {
-    let change = &journal.plan.change;
-    let clip = match &journal.clip {
-        Some(file) => Mapping::new(file, change.brought as usize, Access::Read),
-        None => Mapping::zeros(0),
-    };
-    let clip = clip.map_err(|e| Failure::file(INPUT_OUTPUT, Path::new(&image.name), &e))?;
-    let watch = Watch::new(image.bytes(), &change.spans());
-    let call = call.with_clip(clip.bytes());
-    let got = call.run(image.bytes_mut(), desk.lend(), &mut record, team);
-    watch.done(image.bytes());
-    if (got, record) == (Ok(answer.0), answer.1) {
-        return Ok(());
     }
-    // A refusal has written nothing.
-    let (status, more) = if got.is_err() { (INTERNAL, "") } else { (CUT, ": its journal is kept") };
-    let text = "libcounter answered otherwise than when it was tried";
-    Err(Failure::error(status, format!("{}: {text}{more}", image.name)))
+    if let Some(kept) = kept {
+        kept.is_replaced(decision.turn.account.text());
+    }
+    Ok(())
 }
 
-fn no_journal(path: &Path, why: &io::Error) -> Failure {
-    let status = if disk::is_full(why) { INPUT_OUTPUT } else { CANNOT_CREATE };
-    let text = format!(
-        "{}: the journal of the edit cannot be written: {}; nothing was written",
-        names::file(journal::beside(path)),
-        disk::reason(why)
-    );
-    Failure::error(status, text)
+/// Whether the journal failed, and is closed: then the image is as it was, or as the edit makes it.
+fn is_settled(fault: &Fault, place: &Path, writer: &mut Writer) -> bool {
+    let is_journal = matches!(fault.on, On::Journal | On::Folder);
+    fault.begun && is_journal && {
+        writer.end();
+        matches!(beside::look(place), Ok(Beside::Nothing))
+    }
+}
+
+/// Which of both it is.
+fn is_done(work: &Work, image: &Image, kept: Option<&Kept>) -> bool {
+    let Work { wish, decision, .. } = work;
+    let text = || kept.and_then(|kept| fs::read(&kept.file).ok()).unwrap_or_default();
+    match wish {
+        _ if decision.is_nothing => text() == decision.turn.account.text().into_bytes(),
+        _ => image.file().is_some_and(|file| {
+            // The mapping here shows what is decided, and not what became of it.
+            let clip = match wish {
+                Wish::Fill(_, clip) => clip.is_in(file, decision.planned.clip.start),
+                _ => Ok(true),
+            };
+            clip.unwrap_or(false) && decision.planned.is_in(file)
+        }),
+    }
 }

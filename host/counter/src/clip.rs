@@ -2,16 +2,16 @@
 //! before the image is locked, so whoever is waited for keeps nobody out.
 
 use crate::args::Args;
+use crate::beside;
 use crate::disc::{no_path, not_opened};
-use crate::disk::{self, On, PART, parts};
-use crate::failure::{CANNOT_CREATE, DATA, Failure, INPUT_OUTPUT, NO_INPUT, Outcome};
+use crate::disk::{self, PART, parts};
+use crate::failure::{DATA, Failure, INPUT_OUTPUT, NO_INPUT, Outcome};
 use crate::image::{Desk, Image, cannot_open, regular, same_file};
-use crate::journal;
 use crate::names;
 use crate::os::{self, Mapping};
 use crate::progress::Progress;
-use crate::signals;
 use crate::text::{counted, grouped};
+use crate::writer::Lent;
 use counter_sys as counter;
 use std::ffi::OsStr;
 use std::fs::{self, File, Metadata};
@@ -143,31 +143,27 @@ impl Clip {
         Ok(true)
     }
 
-    /// Writes it beside the image at `path` and waits until it is on the disk: that file, and the sum of
-    /// its bytes. On an error there is none.
-    pub fn keep(&self, path: &Path, progress: &Progress) -> Outcome<(File, u64)> {
-        let path = journal::clip_beside(path);
-        let failed = |status, why: &io::Error| match signals::given_up() {
-            Some(number) => {
-                let text = format!("{}; nothing was written", signals::stopped_by(number));
-                Failure::Signal { number, text }
+    /// Whether its bytes lie at a place of the file.
+    pub fn is_in(&self, file: &File, at: u64) -> io::Result<bool> {
+        let (mut own, mut other) = (vec![0; PART as usize], vec![0; PART as usize]);
+        for (start, len) in parts(0..self.len) {
+            self.file.read_exact_at(&mut own[..len], self.start + start)?;
+            file.read_exact_at(&mut other[..len], at + start)?;
+            if own[..len] != other[..len] {
+                return Ok(false);
             }
-            None => {
-                let why = format!("the clip cannot be kept: {}", reason(why));
-                not_begun(&names::file(&path), status, &why)
-            }
-        };
-        let file = disk::create(On::Clip, &path).map_err(|e| {
-            failed(if disk::is_full(&e) { INPUT_OUTPUT } else { CANNOT_CREATE }, &e)
-        })?;
-        let kept = disk::copy((&self.file, self.start), On::Clip, (&file, 0), self.len, progress)
-            .and_then(|sum| disk::write_out(&file, 0..self.len, progress).map(|()| sum))
-            .and_then(|sum| disk::sync(On::Clip, &file).map(|()| sum))
-            .and_then(|sum| disk::sync_folder(&path).map(|()| sum));
-        kept.map(|sum| (file, sum)).map_err(|e| {
-            let _ = fs::remove_file(&path);
-            failed(INPUT_OUTPUT, &e)
-        })
+        }
+        Ok(true)
+    }
+
+    /// The file that it is in, for the program that writes it.
+    pub fn lend(&self) -> Outcome<Lent> {
+        Lent::new(&self.file).map_err(|e| not_begun(&self.name, INPUT_OUTPUT, &e.to_string()))
+    }
+
+    /// Where in the file it begins.
+    pub fn start(&self) -> u64 {
+        self.start
     }
 }
 
@@ -175,17 +171,17 @@ impl Clip {
 const STANDARD_INPUT: &str = "standard input";
 
 /// That the file has no other use in the edit; the answer is what is told of the image. The image cannot be
-/// filled with itself, and a clip that is kept goes when the edit begins.
+/// filled with itself, and its journal is written while the clip is read.
 fn may_be_used(name: &str, path: &Path, told: &Metadata, image: &Path) -> Outcome<Metadata> {
     let target = regular(image, fs::metadata(image))?;
     if same_file(told, &target) {
         return Err(Failure::usage(format!("{name}: the image cannot be filled with itself")));
     }
     let image = fs::canonicalize(image).unwrap_or(image.to_path_buf());
-    let beside = [journal::beside(&image), journal::clip_beside(&image)];
-    let is = |other: &PathBuf| fs::metadata(other).is_ok_and(|other| same_file(&other, told));
-    match journal::is_ours(path) || beside.iter().any(is) {
-        true => Err(Failure::usage(format!("{name}: this is {}; give it another", journal::OURS))),
+    let journal = fs::metadata(beside::beside(&image));
+    let is_journal = journal.is_ok_and(|journal| same_file(&journal, told));
+    match beside::is_ours(path) || is_journal {
+        true => Err(Failure::usage(format!("{name}: this is {}; give it another", beside::OURS))),
         false => Ok(target),
     }
 }

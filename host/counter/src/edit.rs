@@ -1,76 +1,65 @@
-//! The commands that edit: tried out, written down in a journal, carried out, synced. The library makes
-//! every test before it writes a byte.
+//! The commands that edit: decided on and carried out by counter-write, which makes every test before it writes a
+//! byte, and a journal; told here.
 
 use crate::args::Args;
 use crate::call::{Call, Wish};
-use crate::carry::{self, Work};
+use crate::carry::{self, Work, note};
+use crate::decision::{Asked, decide};
 use crate::disc::Disc;
 use crate::edited;
-use crate::failure::{Failure, Outcome};
+use crate::failure::Outcome;
+use crate::finishing::{Opened, finish};
 use crate::image::Desk;
-use crate::kept::{self, Kept};
+use crate::kept;
 use crate::out::say;
 use crate::progress::Progress;
 use crate::record;
-use crate::recover::finish;
-use crate::signals;
 use crate::told::{dry, report};
-use crate::trial::{Trial, try_out};
 use std::time::Instant;
 
 pub fn edit(args: &Args) -> Outcome<()> {
     let path = args.image.as_deref().expect("an edit has an image");
     let wish = Wish::read(args, path)?;
     let file = kept::place(args, wish.clip())?;
-    let (mut image, _) = carry::open(path, args.dry, false)?;
+    let clip = wish.lend_clip()?;
+    let open = if args.dry { carry::open_dry } else { carry::open };
+    let Opened { mut image, mut writer, .. } = open(path, clip.as_ref())?;
     let mut desk = Desk::new();
     let before = Disc::read(&image, &mut desk)?;
     let (turn, mut kept) = record::in_use(args, file.as_deref(), &image, &mut desk)?;
     let call = Call::new(&wish, &image, &mut desk)?;
     let progress = Progress::start("trying", 0);
-    let trial = try_out(&wish, &call, &image, &mut desk, &before, turn)?;
+    let asked = Asked {
+        wish: &wish,
+        call: &call,
+        before: &before,
+        turn: &turn,
+        kept: kept.as_ref(),
+        clip: clip.as_ref(),
+        note: note(&wish, turn.team, kept.as_ref(), None),
+    };
+    let decision = decide(&asked, &mut writer, &mut image, &mut desk)?;
     drop(progress);
-    let text = report(&wish, &call, &before, &trial);
-    let nothing = trial.change.is_nothing();
+    let text = report(&wish, &call, &before, &decision);
     let told = args
         .json
-        .then(|| edited::json(args, &wish, &call, &before, &trial).document().into_bytes());
+        .then(|| edited::json(args, &wish, &call, &before, &decision).document().into_bytes());
     if args.dry {
         return say(&told.unwrap_or_else(|| dry(&text)));
     }
     let done = |words: &str| {
         told.unwrap_or_else(|| [&text, format!("done: {words}\n").as_bytes()].concat())
     };
-    let Trial { found, change, given, turn, .. } = trial;
-    let record = turn.account.text();
-    if nothing {
-        let last = done("there was nothing to write");
-        return match &mut kept {
-            None => say(&last),
-            Some(kept) => only_count(kept, record, &last),
-        };
+    if decision.is_nothing && kept.is_none() {
+        drop(writer);
+        return say(&done("there was nothing to write"));
     }
-    carry::enough_room(&image, &change)?;
-    let work = Work {
-        wish: &wish,
-        call: &call,
-        change,
-        given: (given, turn.team),
-        answer: (found, turn.account.record),
-        record,
-        line: None,
-        rescue: carry::recovery(args, &image),
-        since: Instant::now(),
-    };
-    carry::carry_out(work, &mut image, &mut desk, kept.as_mut())?.end()?;
-    finish(&done("written and synced"))
-}
-
-/// The image stays as it is, and the edit counts.
-fn only_count(kept: &mut Kept, record: String, last: &[u8]) -> Outcome<()> {
-    let totals = kept.totals(record);
-    signals::begin_writing(false);
-    kept.put(&totals)
-        .map_err(|why| Failure::error(why.status(), format!("{why}; the image is as it was")))?;
-    finish(last)
+    let work = Work { wish: &wish, decision: &decision, line: None, since: Instant::now() };
+    carry::carry_out(&work, &image, &mut writer, kept.as_mut())?;
+    // Its journal goes, and the image is free.
+    drop(writer);
+    finish(&done(match decision.is_nothing {
+        true => "there was nothing to write",
+        false => "written and synced",
+    }))
 }

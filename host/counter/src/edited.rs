@@ -2,19 +2,19 @@
 
 use crate::args::Args;
 use crate::call::{Call, Wish};
+use crate::decision::Decision;
 use crate::disc::{Disc, Kind, Node};
 use crate::json::{self, Json};
 use crate::maximum::Maximum;
 use crate::names;
 use crate::told::{lost, notes, renumbered};
-use crate::trial::Trial;
 use std::collections::{HashMap, HashSet};
 
-/// `trial` is the edit as it was tried.
-pub fn json(args: &Args, wish: &Wish, call: &Call, before: &Disc, trial: &Trial) -> Json {
-    let nothing = trial.change.is_nothing();
-    if let Some(maximum) = &trial.maximum {
-        return stated(args, trial, maximum);
+/// `decision` is the edit as it was decided on.
+pub fn json(args: &Args, wish: &Wish, call: &Call, before: &Disc, decision: &Decision) -> Json {
+    let nothing = decision.is_nothing;
+    if let Some(maximum) = &decision.maximum {
+        return stated(args, decision, maximum);
     }
     let [path, path_bytes] = match wish.path() {
         Some(path) => json::path(path),
@@ -28,8 +28,8 @@ pub fn json(args: &Args, wish: &Wish, call: &Call, before: &Disc, trial: &Trial)
         ("dry_run", args.dry.into()),
         ("written", (!args.dry && !nothing).into()),
     ];
-    fields.extend(answer(wish, call, before, trial));
-    fields.push(("record", trial.turn.json(trial.after.opened.disc_end)));
+    fields.extend(answer(wish, call, before, decision));
+    fields.push(("record", decision.turn.json(decision.after.opened.disc_end)));
     if let Wish::Fill(_, clip) = wish {
         let clip = vec![("name", clip.name.as_str().into()), ("size", clip.len.into())];
         fields.push(("clip", Json::Object(clip)));
@@ -38,38 +38,43 @@ pub fn json(args: &Args, wish: &Wish, call: &Call, before: &Disc, trial: &Trial)
 }
 
 /// What the edit did, but for what it leaves.
-pub fn answer(wish: &Wish, call: &Call, before: &Disc, trial: &Trial) -> Vec<(&'static str, Json)> {
-    let after = &trial.after;
+pub fn answer(
+    wish: &Wish,
+    call: &Call,
+    before: &Disc,
+    decision: &Decision,
+) -> Vec<(&'static str, Json)> {
+    let after = &decision.after;
     // A fill writes other bytes where the place may be the same.
-    let filled = call.file().filter(|_| trial.change.clip);
+    let filled = call.file().filter(|_| decision.fills());
     let table = Json::Object(vec![
         ("before", before.opened.fst_size.into()),
         ("after", after.opened.fst_size.into()),
     ]);
-    let notes = notes(call, before, trial, |name| names::text(name).into_bytes());
+    let notes = notes(call, before, decision, |name| names::text(name).into_bytes());
     let notes = notes.into_iter().map(|note| String::from_utf8_lossy(&note).into_owned().into());
-    let renumbered = renumbered(call, before, trial)
+    let renumbered = renumbered(call, before, decision)
         .map(|(first, last)| Json::Object(vec![("first", first.into()), ("last", last.into())]));
     vec![
         ("table", table),
         ("entries", Json::List(entries(before, after, filled))),
         ("renumbered", renumbered.into()),
-        ("lost", lost(wish, call, before, trial).into()),
+        ("lost", lost(wish, call, before, decision).into()),
         ("notes", Json::List(notes.collect())),
     ]
 }
 
 /// Another maximum, and the table held against it.
-fn stated(args: &Args, trial: &Trial, maximum: &Maximum) -> Json {
-    let (before, after) = trial.change.maximum.unwrap_or_default();
+fn stated(args: &Args, decision: &Decision, maximum: &Maximum) -> Json {
+    let (before, after) = decision.stated.unwrap_or_default();
     let stated = Json::Object(vec![("before", before.into()), ("after", after.into())]);
     let mut fields = vec![
         ("status", 0u32.into()),
         ("edit", args.form.name.into()),
         ("dry_run", args.dry.into()),
-        ("written", (!args.dry && !trial.change.is_nothing()).into()),
+        ("written", (!args.dry && !decision.is_nothing).into()),
         ("fst_maximum", stated),
-        ("fst_size", trial.after.opened.fst_size.into()),
+        ("fst_size", decision.after.opened.fst_size.into()),
     ];
     fields.extend(maximum.fields());
     fields.push(("notes", Json::List(maximum.note().into_iter().map(Json::from).collect())));

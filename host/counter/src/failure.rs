@@ -115,6 +115,15 @@ impl Failure {
         }
     }
 
+    /// The same error with more said behind it.
+    pub fn with(self, more: &str) -> Failure {
+        match self {
+            Failure::Error { status, text } => Failure::Error { status, text: text + more },
+            Failure::Signal { number, text } => Failure::Signal { number, text: text + more },
+            other => other,
+        }
+    }
+
     /// The same with what becomes of a sheet.
     pub fn then(self, then: String, fields: Vec<(&'static str, Json)>) -> Failure {
         Failure::Stopped { why: Box::new(self), then, fields }

@@ -422,28 +422,28 @@ Safety
   - The image is locked while it is used: readers share it, an editor has it alone. A second editor
     is told to wait (75). Other programs may ignore the lock.
   - `done` is said after every byte has been synced to the disk.
-  - Before an edit writes to the image it writes a journal beside it, IMAGE.counter-journal: the
-    table before and after, the file's old and new place. It is on the disk before the first byte of
-    the image changes, and goes when the last one is there. So an edit that is cut anywhere (by a
-    power cut, SIGKILL, a disk that fails or is full) is finished from it: `counter recover IMAGE`
-    does it, and so does the next edit before it begins. Then the image is what the edit makes of
-    it, every byte. Where a cut leaves no journal, the image is as it was, or the edit is done.
-  - A fill keeps its clip beside the image too, IMAGE.counter-clip: it is on the disk before the
-    journal is, goes after it, and takes the clip's room once more. A fill that is cut can leave the
-    file part old and part clip; no other file's bytes are written. Once it is finished, from the
-    clip that was kept, the file is exactly the clip. If that one is gone or spoiled and the file is
-    not whole yet, nothing is written, and what to do is told. One that a cut leaves without a
-    journal is of no use, and the next edit takes it away.
-  - While there is a journal, commands that only read refuse (78); all but `record` take --as-is.
-  - A journal that is torn, or of another image, or of one that was changed since, is never applied;
-    what to do is told. If you bring an image back from a copy, take its journal away; if you rename
-    the image, rename the journal with it, and the clip that is kept. The FILE of a record (--record)
+  - Images are opened for reading alone, but by one program: counter-write, which lies beside counter
+    and is started by every edit. Before it writes to the image it writes a journal beside it,
+    IMAGE.counter-journal: all that the edit will write, the clip of a fill too, which takes its room
+    once more until the edit is done. The journal is on the disk before the first byte of the image
+    changes, and is closed when the last one is there. So an edit that is cut anywhere (by a power
+    cut, SIGKILL, a disk that fails or is full) is finished from it: `counter recover IMAGE` does it,
+    and so does the next edit before it begins. Then the image is what the edit makes of it, every
+    byte. Where a cut leaves no journal, or a closed one, the image is as it was, or the edit is done.
+    That is proved of every disk that behaves as docs/DISK.md says; that a real file does so is
+    argued there, and tested.
+  - While there is the journal of an edit that was cut, commands that only read refuse (78); all but
+    `record` take --as-is.
+  - A journal of another image is never applied: its length, the number of its file and its header
+    tell. The rest of the image is not compared, so if you bring an image back from a copy, take its
+    journal away; if you rename the image, rename the journal with it. The FILE of a record (--record)
     may stay where it is: the journal names it by its absolute path. A journal is found by the
-    image's name, after every symbolic link; by another hard link of the image it is not seen.
-  - Ctrl-C, SIGHUP, SIGQUIT and SIGTERM are answered at once: where nothing but free space was
-    written yet, the edit is given up, and header, table and files are as they were; from then on it
-    is finished first, and about how long that takes is told. Every other signal but SIGKILL waits
-    until the edit is done and synced. The program then says what became of it and ends by the signal.
+    image's name, after every symbolic link; by another hard link of the image it is not seen. One of
+    a version before, which began with `counter journal`, is finished by that version alone.
+  - Ctrl-C, SIGHUP, SIGQUIT and SIGTERM are answered at once: before the writing begins the program
+    ends, and the image is as it was; from then on the edit is finished first, and about how long that
+    takes is told. Every other signal but SIGKILL waits until the edit is done and synced. The program
+    then says what became of it and ends by the signal.
   - On a terminal an edit that takes more than a second tells how far it is.
   - A program (main.dol) that lies behind the table is used like a file, and no edit writes there.
     `info` and `free` tell where it lies.
@@ -454,16 +454,16 @@ Safety
     field, and no other edit does; the line `header: FST maximum` of LIST gives leave for it.
   - Holes of a sparse image, blocks that a reflink copy shares and, on a copy-on-write disk (btrfs,
     ZFS), all blocks take new room when they are written. It is looked for first; if there is too
-    little, nothing is written (74). If room fails in the midst of an edit all the same, the edit is
-    finished from the journal at once; if that fails too (78), make room, then `counter recover`.
+    little, nothing is written (74). If room fails in the midst of an edit all the same (78), make
+    room, then `counter recover`.
   - A record (--record FILE) goes with the edit: what comes back is in the journal, and in FILE before
-    the journal goes. So it counts an edit that was cut once it is finished, and only then. If FILE
-    cannot be written then, the journal stays (78), and what to do is told. `counter help record` says
-    more.
+    the journal is closed. So it counts an edit that was cut once it is finished, and only then. If
+    FILE cannot be written then, the journal stays (78), and what to do is told. `counter help record`
+    says more.
   - Not promised: a disk that says it has synced what it has not; programs that ignore the lock.
   - A sheet is as many edits as it has lines, and what is said of an edit holds of each. Ctrl-C and the
-    other signals end it between two lines at the latest. Its journal stays from one line to the next,
-    so that one is there wherever the sheet is cut, and tells at which line that was.
+    other signals end it between two lines at the latest. Where it is cut in a line, the journal tells
+    at which one; cut between two lines, the last one that was told is done.
   - So keep a copy of an image that cannot be had again, on another disk, try with --dry-run, and
     let `counter compare` tell what changed.
 ";
@@ -478,9 +478,10 @@ fn statuses() -> String {
     }
     out.push_str(
         "  64  wrong usage; a PATH that is no UTF-8, or has a character that Shift-JIS does not have;\n\
+         \x20     an image to be edited, or the FILE of its record, whose name is no UTF-8;\n\
          \x20     --record: a FILE that is the image, a clip, a journal, a folder or a special file;\n\
          \x20     --team: left out with a record that has teams, given with another, or no team of it;\n\
-         \x20     fill: a clip that is the image, a journal or a clip that is kept;\n\
+         \x20     fill: a clip that is the image or a journal;\n\
          \x20     sheet: --from with no such line; where a line of the same sheet was cut and is finished now, --from\n\
          \x20     left out, or with that line;\n\
          \x20     clear, map: a budget of 0 with --sheet, or for a picture\n\
@@ -498,18 +499,16 @@ fn statuses() -> String {
          \x20     clear: --sheet where there are no moves, or where they do not free the run\n\
          \x20 66  no such image or clip, or a folder in its place, or a special file in the image's;\n\
          \x20     --given, --from, --teams LIST: no such LIST, or a folder in its place; sheet: no such FILE or\n\
-         \x20     TEXT, or a folder in its place; after a line that a failing page cut, no FILE or another one;\n\
+         \x20     TEXT, or a folder in its place;\n\
          \x20     new: no such DIR, or a file in its place, or a link or a special file in it\n\
-         \x20 70  the library answered what it never should\n\
-         \x20 73  an output, a journal, a clip that is kept or a record cannot be created, or is there already;\n\
+         \x20 70  the library or counter-write answered what it never should, or counter-write is not there\n\
+         \x20 73  an output, a journal or a record cannot be created, or is there already;\n\
          \x20     extract: two entries would be one file, or a name has too many bytes for a file;\n\
-         \x20     tables: a DIR that is no folder; in it a name that one of the masters has, or a journal or a\n\
-         \x20     clip beside it\n\
+         \x20     tables: a DIR that is no folder; in it a name that one of the masters has, or a journal beside it\n\
          \x20 74  input/output error; the disk is full\n\
          \x20 75  another program is using the image, or the record's FILE\n\
          \x20 77  not allowed: a read-only file or disk, or no permission\n\
-         \x20     64 to 75 and 77: header, table and files are as they were; with 74 free space may hold\n\
-         \x20     part of a copy; `new` and `tables` leave nothing\n\
+         \x20     64 to 75 and 77: the image is as it was; `new` and `tables` leave nothing\n\
          \x20     sheet: where a line is told, all this is of that line; those before it are done and stay,\n\
          \x20     and so is one that was cut before and is told to be finished now\n\
          \x20 76  the edit, or the new image, is written and synced, but its answer could not be printed;\n\
@@ -518,8 +517,9 @@ fn statuses() -> String {
          \x20     `counter recover IMAGE` finishes the edit. Or only its record is not written yet: the\n\
          \x20     last line says so. compare, report: nothing differs without leave, but an edit was cut of an\n\
          \x20     image that was read --as-is\n\
-         \x20 128 + n  ended by signal n: before an edit wrote anything but free space, or when it was\n\
-         \x20     written and synced; the last line says which. After SIGKILL (137) there may be a journal: see 78\n",
+         \x20 128 + n  ended by signal n: before an edit wrote anything, or when it was written and synced;\n\
+         \x20     the last line says which. After SIGKILL (137) the edit may still be going on (75), and is finished;\n\
+         \x20     where counter-write was killed too, there may be a journal: see 78\n",
     );
     out
 }

@@ -1,8 +1,8 @@
 //! An image: a file that is locked and mapped, one in memory alone, or the built-in small master.
 
+use crate::beside;
 use crate::disk::{self, On};
 use crate::failure::{BUSY, CUT, Failure, INPUT_OUTPUT, NO_INPUT, NOT_ALLOWED, Outcome};
-use crate::journal;
 use crate::names;
 use crate::os::{self, Access, Mapping};
 use counter_sys::{MOST_TABLE, MOST_WORDS, Memory};
@@ -50,12 +50,24 @@ impl Image {
             let bytes = Bytes::BuiltIn(SMALL_MASTER.to_vec());
             return Ok(Image { name: BUILT_IN.into(), path: None, bytes });
         };
-        let image = Image::map(path, Access::Read)?;
+        Image::whole(path, Access::Read)
+    }
+
+    /// The file at `path`, to try an edit on: what is written to it stays in memory.
+    pub fn dry(path: &Path) -> Outcome<Image> {
+        Image::whole(path, Access::Private)
+    }
+
+    fn whole(path: &Path, access: Access) -> Outcome<Image> {
+        let file = open(path)?;
+        not_the_output(path, &file)?;
+        lock(path, &file, Lock::Shared)?;
+        let image = Image::map(path, file, access)?;
         if AS_IS.load(Ordering::SeqCst) {
             return Ok(image);
         }
         let place = image.path().unwrap_or(path);
-        match journal::untold(place) {
+        match beside::untold(place) {
             Some(why) => Err(untold(place, &why)),
             None if image.is_cut() => Err(unfinished(place)),
             None => Ok(image),
@@ -64,12 +76,16 @@ impl Image {
 
     /// Whether an edit of it was cut: its journal is there.
     pub fn is_cut(&self) -> bool {
-        self.path.as_deref().is_some_and(journal::is_there)
+        self.path.as_deref().is_some_and(beside::is_cut)
     }
 
-    /// The file at `path`, to be edited. A journal is left to whoever edits.
+    /// The file at `path`, which another program is to edit: that one locks it, and deals with a journal. What
+    /// is written to it here stays in memory.
     pub fn edit(path: &Path) -> Outcome<Image> {
-        Image::map(path, Access::Shared)
+        may_be_written(path)?;
+        let file = open(path)?;
+        not_the_output(path, &file)?;
+        Image::map(path, file, Access::Private)
     }
 
     /// An image of zeros in memory. What is written behind the first `kept` bytes takes none, and is lost.
@@ -87,10 +103,7 @@ impl Image {
         Ok(Image { name: names::file(path), path: None, bytes: Bytes::Mapped { file, mapping } })
     }
 
-    fn map(path: &Path, access: Access) -> Outcome<Image> {
-        let file = open(path, access)?;
-        not_the_output(path, &file)?;
-        lock(path, &file, access)?;
+    fn map(path: &Path, file: File, access: Access) -> Outcome<Image> {
         let mapping = mapped(path, &file, access)?;
         // A file without a name (of a descriptor) can be read; a journal finds no place beside it.
         let place = fs::canonicalize(path).unwrap_or(path.to_path_buf());
@@ -120,6 +133,37 @@ impl Image {
         }
         let bytes = Bytes::Mapped { file, mapping };
         Ok(Image { name: self.name.clone(), path: self.path.clone(), bytes })
+    }
+
+    /// Lets small memory stand in for parts of an image that is written in memory only, as for a trial.
+    pub fn stand_in(&mut self, spans: &[Range<u64>]) -> Outcome<()> {
+        let Bytes::Mapped { mapping, .. } = &mut self.bytes else { return Ok(()) };
+        let spans: Vec<_> =
+            spans.iter().map(|span| span.start as usize..span.end as usize).collect();
+        let failed = |e: io::Error| Failure::file(INPUT_OUTPUT, Path::new(&self.name), &e);
+        mapping.stand_in(&spans).map_err(failed)
+    }
+
+    /// Does something while nobody edits it.
+    pub fn while_still<T>(&self, work: impl FnOnce() -> T) -> Outcome<T> {
+        let Some(file) = self.file() else { return Ok(work()) };
+        let path = Path::new(&self.name);
+        lock(path, file, Lock::Shared)?;
+        let done = work();
+        let _ = file.unlock();
+        Ok(done)
+    }
+
+    /// Another program uses it: that is told, or waited for if that is wanted.
+    pub fn wait_for_others(&self) -> Outcome<()> {
+        let Some(file) = self.file() else { return Ok(()) };
+        let path = Path::new(&self.name);
+        if !WAIT.load(Ordering::Relaxed) {
+            return Err(busy(path, Lock::Alone));
+        }
+        wait(path, file, Lock::Alone)
+            .and_then(|()| file.unlock())
+            .map_err(|e| Failure::file(INPUT_OUTPUT, path, &e))
     }
 
     pub fn path(&self) -> Option<&Path> {
@@ -184,7 +228,7 @@ pub fn untold(path: &Path, why: &io::Error) -> Failure {
     let text = format!(
         "{}: {}: it cannot be told whether there is a journal, and so whether an edit of the image was cut. \
          Nothing was done; a command that only reads takes the image as it is with --as-is",
-        names::file(journal::beside(path)),
+        names::file(beside::beside(path)),
         disk::reason(why)
     );
     Failure::error(INPUT_OUTPUT, text)
@@ -192,7 +236,7 @@ pub fn untold(path: &Path, why: &io::Error) -> Failure {
 
 /// For a command that does not edit.
 fn unfinished(path: &Path) -> Failure {
-    let edit = journal::words(path).map_or(String::new(), |words| format!(" ({words})"));
+    let edit = beside::words(path).map_or(String::new(), |words| format!(" ({words})"));
     let or = match KNOWS_AS_IS.load(Ordering::SeqCst) {
         true => "; --as-is takes the image as it is",
         false => "",
@@ -205,22 +249,25 @@ fn unfinished(path: &Path) -> Failure {
     Failure::error(CUT, text)
 }
 
-fn open(path: &Path, access: Access) -> Outcome<File> {
+fn open(path: &Path) -> Outcome<File> {
+    regular(path, fs::metadata(path))?;
+    OpenOptions::new()
+        .read(true)
+        .custom_flags(os::O_NONBLOCK)
+        .open(path)
+        .map_err(|e| cannot_open(path, &e))
+}
+
+fn may_be_written(path: &Path) -> Outcome<()> {
     let told = regular(path, fs::metadata(path))?;
-    let write = access == Access::Shared;
     // The owner of the machine may write to anything; a file marked read-only is still kept.
-    if write && told.permissions().mode() & 0o222 == 0 {
+    if told.permissions().mode() & 0o222 == 0 {
         return Err(Failure::error(
             NOT_ALLOWED,
             format!("{}: the file is read-only", names::file(path)),
         ));
     }
-    OpenOptions::new()
-        .read(true)
-        .write(write)
-        .custom_flags(os::O_NONBLOCK)
-        .open(path)
-        .map_err(|e| cannot_open(path, &e))
+    os::may_write_to(path).map_err(|e| cannot_open(path, &e))
 }
 
 /// Why a file that is to be read or edited cannot be had.
@@ -260,26 +307,40 @@ pub fn wait_for_others() {
 }
 
 /// Readers share an image; an editor has it alone, and its record.
-pub fn lock(path: &Path, file: &File, access: Access) -> Outcome<()> {
-    let mut got = match access {
-        Access::Shared => file.try_lock(),
-        _ => file.try_lock_shared(),
+#[derive(Clone, Copy, PartialEq, Eq)]
+pub enum Lock {
+    Shared,
+    Alone,
+}
+
+pub fn lock(path: &Path, file: &File, how: Lock) -> Outcome<()> {
+    let got = match how {
+        Lock::Alone => file.try_lock(),
+        Lock::Shared => file.try_lock_shared(),
     };
-    if matches!(got, Err(TryLockError::WouldBlock)) && WAIT.load(Ordering::Relaxed) {
-        eprintln!("counter: {}: another program is using it; waiting", names::file(path));
-        let waited = if access == Access::Shared { file.lock() } else { file.lock_shared() };
-        got = waited.map_err(TryLockError::Error);
-    }
+    let failed = |e: io::Error| Failure::file(INPUT_OUTPUT, path, &e);
     match got {
         Ok(()) => Ok(()),
-        Err(TryLockError::WouldBlock) => {
-            let who = if access == Access::Shared { "using" } else { "editing" };
-            let text =
-                format!("{}: another program is {who} it; try again later", names::file(path));
-            Err(Failure::error(BUSY, text))
+        Err(TryLockError::WouldBlock) if WAIT.load(Ordering::Relaxed) => {
+            wait(path, file, how).map_err(failed)
         }
-        Err(TryLockError::Error(e)) => Err(Failure::file(INPUT_OUTPUT, path, &e)),
+        Err(TryLockError::WouldBlock) => Err(busy(path, how)),
+        Err(TryLockError::Error(e)) => Err(failed(e)),
     }
+}
+
+fn wait(path: &Path, file: &File, how: Lock) -> io::Result<()> {
+    eprintln!("counter: {}: another program is using it; waiting", names::file(path));
+    match how {
+        Lock::Alone => file.lock(),
+        Lock::Shared => file.lock_shared(),
+    }
+}
+
+fn busy(path: &Path, how: Lock) -> Failure {
+    let who = if how == Lock::Alone { "using" } else { "editing" };
+    let text = format!("{}: another program is {who} it; try again later", names::file(path));
+    Failure::error(BUSY, text)
 }
 
 /// Working memory for every call: enough for the largest table that opens.

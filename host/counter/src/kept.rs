@@ -1,13 +1,15 @@
 //! The file that keeps a totals record from one edit to the next (`--record FILE`): where it lies, what is in
 //! it, and how it is replaced. While an edit goes on it is locked.
 
+use crate::account::Account;
 use crate::args::Args;
+use crate::beside::{self, sum_of};
 use crate::disk::{self, On};
 use crate::failure::{CANNOT_CREATE, Failure, INPUT_OUTPUT, NOT_ALLOWED, Outcome};
-use crate::image::{cannot_open, lock, same_file};
-use crate::journal::{self, Totals};
+use crate::image::{Lock, cannot_open, lock, same_file};
 use crate::names;
-use crate::os::{self, Access};
+use crate::os;
+use crate::sha256::Sum;
 use std::fs::{self, File, Metadata};
 use std::io::{self, ErrorKind, Read};
 use std::os::unix::ffi::OsStrExt;
@@ -37,7 +39,7 @@ pub fn place(args: &Args, clip: Option<Metadata>) -> Outcome<Option<PathBuf>> {
         Some(told) if !told.is_file() => "a special file",
         _ if is(image) => "the image",
         _ if is(clip) => "the clip",
-        _ if journal::is_ours(file) => journal::OURS,
+        _ if beside::is_ours(file) => beside::OURS,
         _ => return Ok(Some(place)),
     };
     Err(Failure::usage(format!(
@@ -74,43 +76,104 @@ pub struct Kept {
     pub file: PathBuf,
     /// None if there is no file; no bytes if it cannot be a record.
     pub bytes: Option<Vec<u8>>,
-    lock: Option<File>,
+    /// What is locked: the file, or where there is none its folder.
+    held: Option<File>,
 }
 
 impl Kept {
     /// The file, which is no link; locked if it is to be replaced.
     pub fn open(file: &Path, locked: bool) -> Outcome<Kept> {
         let failed = |e: io::Error| cannot_open(file, &e);
-        let held = if locked { hold(file)? } else { open(file, false).map_err(failed)? };
-        let bytes = held.as_ref().map(contents).transpose().map_err(failed)?;
-        Ok(Kept { file: file.to_path_buf(), bytes, lock: held })
+        let (is_there, held) = match locked {
+            true => hold(file)?,
+            false => {
+                let held = open(file, false).map_err(failed)?;
+                (held.is_some(), held)
+            }
+        };
+        let read = held.as_ref().filter(|_| is_there).map(contents);
+        let bytes = read.transpose().map_err(failed)?;
+        Ok(Kept { file: file.to_path_buf(), bytes, held })
     }
 
-    /// What an edit does to it.
-    pub fn totals(&self, new: String) -> Totals {
-        let old = self.bytes.clone().unwrap_or_default();
-        Totals { file: self.file.clone(), old, new: new.into_bytes() }
+    /// The sum of its text; zeros where there is no file.
+    pub fn sum(&self) -> Sum {
+        self.bytes.as_deref().map_or(Sum::default(), sum_of)
     }
 
-    /// Puts the new text there. Nobody else gets at it, as long as this is in use.
-    pub fn put(&mut self, totals: &Totals) -> Outcome<()> {
-        self.lock = Some(put(totals)?);
-        self.bytes = Some(totals.new.clone());
+    /// Whether it is there as it was found; for whoever replaces it next.
+    pub fn is_unchanged(&self) -> Outcome<()> {
+        match unchanged(&self.file, self.bytes.as_deref()) {
+            Ok(_) => Ok(()),
+            Err(why) => Err(not_written(&self.file, &why).with("; nothing was written")),
+        }
+    }
+
+    /// Another program has replaced it by this text, for this one. Nobody else gets at it, as long as this is in
+    /// use.
+    pub fn is_replaced(&mut self, text: String) {
+        let held = open(&self.file, true).ok().flatten();
+        // Where the disk has no locks, the old one has none either. Whoever was faster is told of later.
+        self.held = held.inspect(|held| _ = held.try_lock());
+        self.bytes = Some(text.into_bytes());
+    }
+
+    /// Puts a new text there.
+    pub fn put(&mut self, text: &str) -> Outcome<()> {
+        let new = put(&self.file, self.bytes.as_deref(), text.as_bytes());
+        self.held = Some(new.map_err(|e| not_written(&self.file, &e))?);
+        self.bytes = Some(text.into());
         Ok(())
     }
 }
 
-/// The file with its lock, if it is there. Whoever had it may have put another in its place.
-fn hold(file: &Path) -> Outcome<Option<File>> {
+/// The record of an edit that was cut, locked. It has to be the one before the edit, or the one behind it.
+pub fn before_or_behind(file: &Path, old: Option<&Sum>, new: &[u8]) -> Result<Kept, Misfit> {
+    if fs::symlink_metadata(file).is_ok_and(|told| !told.is_file()) {
+        return Err(Misfit::NoFile);
+    }
+    let kept = Kept::open(file, true).map_err(Misfit::Unread)?;
+    let is_old = old.is_none_or(|old| kept.sum() == *old);
+    match &kept.bytes {
+        Some(bytes) if bytes == new => Ok(kept),
+        Some(bytes) if is_old && Account::parse(bytes).is_err() => Err(Misfit::NoRecord),
+        _ if is_old => Ok(kept),
+        Some(_) => Err(Misfit::Changed),
+        None => Err(Misfit::Gone),
+    }
+}
+
+/// What is wrong with the record of an edit that was cut.
+pub enum Misfit {
+    Unread(Failure),
+    Changed,
+    Gone,
+    /// A link, say: the program would put the record in its place.
+    NoFile,
+    /// No edit with this record can have begun.
+    NoRecord,
+}
+
+/// Whether the file is there, and its lock, or else that of its folder, in which two first edits would make one
+/// each. Whoever had it may have put another in its place.
+fn hold(file: &Path) -> Outcome<(bool, Option<File>)> {
     let failed = |e: io::Error| cannot_open(file, &e);
     loop {
         let Some(held) = open(file, true).map_err(failed)? else {
-            return Ok(None);
+            // Not every disk locks folders.
+            let folder = File::open(file.parent().unwrap_or(Path::new("/"))).ok();
+            if let Some(folder) = &folder {
+                lock(file, folder, Lock::Alone)?;
+            }
+            match fs::symlink_metadata(file).is_ok() {
+                true => continue,
+                false => return Ok((false, folder)),
+            }
         };
-        lock(file, &held, Access::Shared)?;
+        lock(file, &held, Lock::Alone)?;
         let told = held.metadata().map_err(failed)?;
         if fs::metadata(file).is_ok_and(|now| same_file(&now, &told)) {
-            return Ok(Some(held));
+            return Ok((true, Some(held)));
         }
     }
 }
@@ -136,37 +199,26 @@ fn contents(mut file: &File) -> io::Result<Vec<u8>> {
 
 /// Puts the new text in the place of the old one, which must still be there, and waits until it is on the
 /// disk. The file that has it is locked.
-fn put(totals: &Totals) -> Outcome<File> {
-    let failed = |e: io::Error| not_written(&totals.file, &e);
-    let was = unchanged(totals).map_err(failed)?;
-    let (early, new) = create_beside(&totals.file).map_err(failed)?;
+fn put(file: &Path, old: Option<&[u8]>, text: &[u8]) -> io::Result<File> {
+    let was = unchanged(file, old)?;
+    let (early, new) = create_beside(file)?;
     // Nobody else knows the file yet. Where the disk has no locks, the old one has none either.
     let _ = new.try_lock();
-    let named = write(&new, was.as_ref(), &totals.new).and_then(|()| match was {
-        Some(_) => disk::rename(On::Record, &early, &totals.file),
-        None => disk::rename_new(On::Record, &early, &totals.file),
+    let named = write(&new, was.as_ref(), text).and_then(|()| match was {
+        Some(_) => disk::rename(On::Record, &early, file),
+        None => disk::rename_new(On::Record, &early, file),
     });
     if named.is_err() {
         let _ = disk::remove(On::Record, &early);
     }
-    named.and_then(|()| disk::sync_folder(&totals.file)).map(|()| new).map_err(failed)
+    named.and_then(|()| disk::sync_folder(file)).map(|()| new)
 }
 
-/// The same for an edit that was cut: the new text may be there already.
-pub fn put_again(totals: &Totals) -> Outcome<()> {
-    let totals = &Totals { file: resolved(&totals.file)?, ..totals.clone() };
-    let kept = Kept::open(&totals.file, true)?;
-    match kept.bytes.as_ref() == Some(&totals.new) {
-        true => disk::sync_folder(&totals.file).map_err(|e| not_written(&totals.file, &e)),
-        false => put(totals).map(|_| ()),
-    }
-}
-
-/// What is told of the file, if there is one. It must be as the edit found it.
-fn unchanged(totals: &Totals) -> io::Result<Option<Metadata>> {
-    let file = open(&totals.file, false)?;
+/// What is told of the file, if there is one. It must be as it was found.
+fn unchanged(file: &Path, old: Option<&[u8]>) -> io::Result<Option<Metadata>> {
+    let file = open(file, false)?;
     let now = file.as_ref().map(contents).transpose()?;
-    match now.as_ref() == Some(&totals.old).filter(|old| !old.is_empty()) {
+    match now.as_deref() == old {
         true => file.map(|file| file.metadata()).transpose(),
         false if now.is_none() => Err(io::Error::other("it is not there any more")),
         false => Err(io::Error::other("another program changed it meanwhile")),

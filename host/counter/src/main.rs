@@ -11,27 +11,30 @@ mod anew;
 mod area;
 mod args;
 mod banner;
+mod beside;
 mod call;
 mod carry;
 mod cause;
-mod change;
 mod clear;
 mod clip;
 mod compare;
+mod decision;
 mod digests;
 mod disc;
 mod disk;
 mod dol;
 mod edit;
 mod edited;
+mod explain;
 mod failure;
+mod fault;
+mod finishing;
 mod given;
 mod header;
 #[cfg(test)]
 mod headers;
 mod help;
 mod image;
-mod journal;
 mod json;
 mod kept;
 mod layout;
@@ -44,13 +47,13 @@ mod maximum;
 mod moves;
 mod names;
 mod os;
+mod outline;
 mod pages;
 mod places;
+mod planned;
 mod program;
 mod progress;
 mod record;
-mod recover;
-mod redo;
 mod report;
 mod room;
 mod run;
@@ -61,19 +64,19 @@ mod sheet;
 mod signals;
 mod small;
 mod stored;
-mod sum;
 mod tables;
 mod take;
 mod teams;
 mod text;
 mod told;
 mod tree;
-mod trial;
 mod trouble;
 mod units;
+mod value;
 mod version;
 mod wanted;
 mod way;
+mod writer;
 
 use args::{Args, FORMS, Form};
 use cause::cause;
@@ -147,8 +150,8 @@ fn run(args: Args) -> Outcome<u8> {
         image::wait_for_others();
     }
     // Whatever is put under such a name would be taken for an edit that was cut.
-    if let Some(path) = args.made().into_iter().find(|path| journal::is_ours(path)) {
-        let text = format!("{}: this is {}; name another file", names::file(path), journal::OURS);
+    if let Some(path) = args.made().into_iter().find(|path| beside::is_ours(path)) {
+        let text = format!("{}: this is {}; name another file", names::file(path), beside::OURS);
         return Err(Failure::usage(text));
     }
     image::as_is(args.as_is, args.form.has("--as-is"));
@@ -171,7 +174,7 @@ fn run(args: Args) -> Outcome<u8> {
         "compare" if args.tables => return tables::compare(&args),
         "compare" => return compare::compare(&args),
         "report" => return report::report(&args),
-        "recover" => recover::recover(&args)?,
+        "recover" => finishing::recover(&args)?,
         "new" => make::new(&args)?,
         "tables" => small::tables(&args)?,
         "sheet" => run::sheet(&args)?,

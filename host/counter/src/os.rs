@@ -1,13 +1,13 @@
 //! What the program asks of the operating system beyond std: a mapped file, memory that stands in for
-//! parts of it, holes in a file, and a name that nothing has yet. (Signals and room on the disk have files
-//! of their own.)
+//! parts of it, a file that another program inherits, and a name that nothing has yet. (Signals and room on
+//! the disk have files of their own.)
 
 pub use crate::signals::{SIGPIPE, catch_signals, end_by, holding, unfinished};
 use std::ffi::{CString, c_char};
 use std::fs::{self, File};
 use std::io::{self, ErrorKind};
 use std::ops::Range;
-use std::os::fd::{AsRawFd, FromRawFd};
+use std::os::fd::{AsRawFd, FromRawFd, OwnedFd};
 use std::os::unix::ffi::OsStrExt;
 use std::path::Path;
 use std::ptr;
@@ -37,15 +37,13 @@ const MS_SYNC: i32 = 4;
 const MAP_FIXED: i32 = 0x10;
 const MADV_DONTNEED: i32 = 4;
 const MFD_CLOEXEC: u32 = 1;
-const PUNCH_HOLE_KEEP_SIZE: i32 = 3;
-const WRITE_AND_WAIT: u32 = 7;
 
 const READ_WRITE_SEARCH: i32 = 7;
+const READ_WRITE: i32 = 6;
 const AT_FDCWD: i32 = -100;
 const RENAME_NOREPLACE: u32 = 1;
 const ENOSYS: i32 = 38;
 const EINVAL: i32 = 22;
-const ESPIPE: i32 = 29;
 
 pub const O_NONBLOCK: i32 = 0x800;
 pub const EROFS: i32 = 30;
@@ -64,8 +62,7 @@ unsafe extern "C" {
         to: *const c_char,
         flags: u32,
     ) -> i32;
-    fn fallocate(fd: i32, mode: i32, offset: i64, len: i64) -> i32;
-    fn sync_file_range(fd: i32, offset: i64, len: i64, flags: u32) -> i32;
+    fn dup(fd: i32) -> i32;
 }
 
 /// How a file is mapped.
@@ -233,22 +230,11 @@ impl Relief {
     }
 }
 
-/// Makes a part of a file a hole: it reads as zeros and takes no room.
-pub fn punch(file: &File, at: u64, len: u64) -> io::Result<()> {
-    match unsafe { fallocate(file.as_raw_fd(), PUNCH_HOLE_KEEP_SIZE, at as i64, len as i64) } {
-        0 => Ok(()),
-        _ => Err(io::Error::last_os_error()),
-    }
-}
-
-/// Waits until the bytes of a part of a file have left the memory. That they are on the disk for good only
-/// a sync says; but an error that is told here is told nowhere else.
-pub fn write_out(file: &File, at: u64, len: u64) -> io::Result<()> {
-    let fd = file.as_raw_fd();
-    match answer(unsafe { sync_file_range(fd, at as i64, len as i64, WRITE_AND_WAIT) }) {
-        // A disk that cannot do it leaves it to the sync.
-        Err(e) if matches!(e.raw_os_error(), Some(EINVAL | ENOSYS | ESPIPE)) => Ok(()),
-        done => done,
+/// The same file once more, for a program that is started to inherit.
+pub fn lend(file: &File) -> io::Result<OwnedFd> {
+    match unsafe { dup(file.as_raw_fd()) } {
+        fd if fd < 0 => Err(io::Error::last_os_error()),
+        fd => Ok(unsafe { OwnedFd::from_raw_fd(fd) }),
     }
 }
 
@@ -264,6 +250,12 @@ fn answer(got: i32) -> io::Result<()> {
 pub fn may_write(folder: &Path) -> io::Result<()> {
     let folder = c_path(folder)?;
     answer(unsafe { access(folder.as_ptr(), READ_WRITE_SEARCH) })
+}
+
+/// Whether a file may be read and written to.
+pub fn may_write_to(file: &Path) -> io::Result<()> {
+    let file = c_path(file)?;
+    answer(unsafe { access(file.as_ptr(), READ_WRITE) })
 }
 
 /// Gives a file a name that nothing has yet.
@@ -301,19 +293,15 @@ mod tests {
 
     #[test]
     fn the_numbers_are_the_systems() {
-        let headers = ["errno.h", "fcntl.h", "linux/falloc.h", "stdio.h", "sys/mman.h", "unistd.h"];
+        let headers = ["errno.h", "fcntl.h", "stdio.h", "sys/mman.h", "unistd.h"];
         hold(
             &headers,
             &of_c!(PROT_READ PROT_WRITE MAP_SHARED MAP_PRIVATE MAP_ANONYMOUS MAP_NORESERVE MAP_FIXED MS_SYNC
-                MADV_DONTNEED MFD_CLOEXEC AT_FDCWD RENAME_NOREPLACE ENOSYS EINVAL ESPIPE EROFS O_NONBLOCK),
+                MADV_DONTNEED MFD_CLOEXEC AT_FDCWD RENAME_NOREPLACE ENOSYS EINVAL EROFS O_NONBLOCK),
         );
-        const HOLE: &str = "FALLOC_FL_PUNCH_HOLE | FALLOC_FL_KEEP_SIZE";
-        const WAIT: &str =
-            "SYNC_FILE_RANGE_WAIT_BEFORE | SYNC_FILE_RANGE_WRITE | SYNC_FILE_RANGE_WAIT_AFTER";
         let facts = [
-            (HOLE, PUNCH_HOLE_KEEP_SIZE.into()),
-            (WAIT, WRITE_AND_WAIT.into()),
             ("R_OK | W_OK | X_OK", READ_WRITE_SEARCH.into()),
+            ("R_OK | W_OK", READ_WRITE.into()),
             ("sizeof(off_t)", size_of::<i64>() as i128),
         ];
         hold(&headers, &facts);

@@ -32,6 +32,12 @@ impl Progress {
         let done = self.done.fetch_add(bytes, Ordering::Relaxed) + bytes;
         signals::expect(done, self.total.saturating_sub(done));
     }
+
+    /// So much is done by now.
+    pub fn reach(&self, bytes: u64) {
+        self.done.store(bytes, Ordering::Relaxed);
+        signals::expect(bytes, self.total.saturating_sub(bytes));
+    }
 }
 
 /// Shows what is done. Where no thread can be had, the work is done without.

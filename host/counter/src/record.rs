@@ -2,7 +2,7 @@
 //! taken, and how many of its edits were accepted. It goes into every edit and comes back; `--record FILE`
 //! keeps it from one run to the next.
 //!
-//! What comes back is in the journal, and in FILE before the journal goes. So an edit that was cut is counted
+//! What comes back is in the journal, and in FILE before the journal is closed. So an edit that was cut is counted
 //! exactly if it is finished.
 
 use crate::account::{self, Account, Turn};
@@ -10,7 +10,6 @@ use crate::args::Args;
 use crate::disc::{not_opened, space};
 use crate::failure::{CANNOT_CREATE, DATA, Failure, Outcome};
 use crate::image::{Desk, Image};
-use crate::journal::Totals;
 use crate::json::Json;
 use crate::kept::{self, Kept};
 use crate::names;
@@ -18,6 +17,7 @@ use crate::os;
 use crate::out::say;
 use crate::teams::Listed;
 use crate::text::grouped;
+use crate::writer::not_utf8;
 use counter_sys::{self as counter, Record};
 use std::ffi::OsStr;
 use std::path::Path;
@@ -48,6 +48,9 @@ pub fn in_use(
     let Some(file) = file else {
         return Ok((Turn { account: fresh, team: 0 }, None));
     };
+    if file.to_str().is_none() {
+        return Err(not_utf8(file, "a record whose path"));
+    }
     let kept = Kept::open(file, !args.dry)?;
     let there = read(&kept)?;
     let team = whose(file, there.as_ref(), args.team.as_deref())?;
@@ -98,21 +101,12 @@ pub fn alone(image: &Image, desk: &mut Desk) -> Outcome<Turn> {
     Ok(Turn { account, team: 0 })
 }
 
-/// The record that an edit leaves in its file, if what its journal says of that is one. Its teams are those of
-/// the record before, and the one that has another count now is the one whose edit it was.
-pub fn of(totals: &Totals) -> Option<Turn> {
-    let account = Account::parse(&totals.new).ok()?;
-    if totals.old.is_empty() {
-        return account.names.is_empty().then_some(Turn { account, team: 0 });
-    }
-    let old = Account::parse(&totals.old).ok().filter(|old| old.names == account.names)?;
-    let counts = |account: &Account, number: u32| account.record.teams[number as usize].edits;
-    let counted = |number: &u32| counts(&old, *number) != counts(&account, *number);
-    let team = match account.names.is_empty() {
-        true => 0,
-        false => account.names.numbers().find(counted)?,
-    };
-    Some(Turn { account, team })
+/// The record that an edit of a team leaves in its file, if the text is one of a record with that team.
+pub fn of(text: &[u8], team: u32) -> Option<Turn> {
+    let account = Account::parse(text).ok()?;
+    let has_team = account.names.numbers().any(|number| number == team);
+    let is_one = if account.names.is_empty() { team == 0 } else { has_team };
+    is_one.then_some(Turn { account, team })
 }
 
 // The command -----------------------------------------------------------------------------
@@ -134,8 +128,7 @@ pub fn record(args: &Args) -> Outcome<()> {
         let mut kept = Kept::open(place, true)?;
         may_be_replaced(&kept, args)?;
         notes.extend(forgotten(&kept));
-        let totals = kept.totals(account.text());
-        os::holding(|| kept.put(&totals))?;
+        os::holding(|| kept.put(&account.text()))?;
     }
     let (end, file) = (space.opened.disc_end, args.record.as_ref().map(names::file));
     if args.json {

@@ -2,34 +2,32 @@
 
 use crate::account::Turn;
 use crate::args::Args;
+use crate::beside;
 use crate::call::{Call, Wish};
-use crate::carry::{self, Done, Work};
+use crate::carry::{self, Work, note};
+use crate::decision::{Asked, Decision, decide};
 use crate::disc::Disc;
 use crate::edited;
-use crate::failure::{CUT, DATA, Failure, INPUT_OUTPUT, INTERNAL, NO_INPUT, Outcome, UNSAID};
+use crate::failure::{CUT, DATA, Failure, INPUT_OUTPUT, INTERNAL, Outcome, UNSAID};
+use crate::finishing::{Finished, Opened, With, finish_as, from};
 use crate::image::{Desk, Image};
-use crate::journal;
 use crate::json::{self, Json};
 use crate::kept::{self, Kept};
 use crate::lines::LONGEST;
 use crate::names;
 use crate::out::say;
+use crate::outline::Outline;
 use crate::progress::Progress;
 use crate::record;
-use crate::recover::{Finished, With, finish_as, from};
 use crate::save::{save, vacant};
 use crate::script;
-use crate::sha256;
 use crate::sheet::{self, Kind, Line, Sheet};
 use crate::signals;
 use crate::text::counted;
 use crate::told::{answer, dry, led, left};
-use crate::trial::{Trial, try_out};
-use std::env;
-use std::ffi::OsString;
+use crate::writer::Writer;
 use std::fs;
 use std::path::{Path, PathBuf};
-use std::slice;
 use std::time::Instant;
 
 pub fn sheet(args: &Args) -> Outcome<()> {
@@ -116,40 +114,41 @@ fn shown(line: &Line, n: u32) -> Vec<(&'static str, Json)> {
 
 fn run(args: &Args) -> Outcome<()> {
     let path = args.image.as_deref().expect("a sheet is run on an image");
-    let anew = Anew::this();
-    let sheet = match &anew {
-        None => Sheet::read(&args.path(0)),
-        Some(anew) => anew.read(&args.path(0)),
-    };
-    let sheet = sheet.map_err(|why| without_sheet(args, path, anew.is_some(), why))?;
+    let sheet = Sheet::read(&args.path(0)).map_err(|why| without_sheet(path, why))?;
     let begin = first(args, &sheet)?;
     let file = kept::place(args, None)?;
-    let (image, finished) = opened(args, path, anew.is_some())?;
+    let (image, writer, finished) = opened(args, path)?;
     if let Some(finished) = &finished {
         may_begin(args, &sheet, finished)?;
     }
-    // What lines of a dry run leave is put there.
-    let image = if args.dry { image.trial(&[], &[])? } else { image };
     let mut desk = Desk::new();
     let disc = Disc::read(&image, &mut desk)?;
     let (turn, kept) = record::in_use(args, file.as_deref(), &image, &mut desk)?;
+    let (writer, outline) = match writer {
+        Some(writer) => (writer, None),
+        // What a line leaves is put there, and the next one is decided on that.
+        None => {
+            let outline = Outline::of(&image, &disc)?;
+            (carry::deciding(&image, &outline.file, None)?, Some(outline))
+        }
+    };
     let table = disc.opened.fst_size;
     let run = Run {
         args,
         path,
         sheet,
         begin,
-        first: anew.as_ref().map_or(begin, |anew| anew.first),
-        written: anew.is_some(),
+        written: false,
         finished: finished.map(|finished| finished.words),
         since: Instant::now(),
         table,
         image,
+        writer,
+        outline,
         desk,
         disc,
         turn,
         kept,
-        standing: None,
         results: Vec::new(),
         unsaid: None,
     };
@@ -196,7 +195,7 @@ fn may_begin(args: &Args, sheet: &Sheet, finished: &Finished) -> Outcome<()> {
 /// What the answer holds of a line that was cut, where no other was run.
 fn of_cut(
     args: &Args,
-    line: &journal::Line,
+    line: &beside::Line,
     finished: Option<&String>,
 ) -> Vec<(&'static str, Json)> {
     vec![
@@ -212,10 +211,16 @@ fn of_cut(
     ]
 }
 
-/// The image. Where an edit was cut and is not finished, the answer holds its line.
-fn opened(args: &Args, path: &Path, goes_on: bool) -> Outcome<(Image, Option<Finished>)> {
-    let standing = journal::line(&place(path));
-    carry::open(path, args.dry, goes_on).map_err(|why| match standing {
+/// The image, and its writer if the run is not dry. Where an edit was cut and is not finished, the answer holds its
+/// line.
+fn opened(args: &Args, path: &Path) -> Outcome<(Image, Option<Writer>, Option<Finished>)> {
+    let standing = beside::line(&place(path));
+    let opened = match args.dry {
+        true => Image::dry(path).map(|image| (image, None, None)),
+        false => carry::open(path, None)
+            .map(|Opened { image, writer, finished }| (image, Some(writer), finished)),
+    };
+    opened.map_err(|why| match standing {
         Some(line) if [CUT, INPUT_OUTPUT].contains(&why.status()) => {
             why.then(String::new(), of_cut(args, &line, None))
         }
@@ -227,78 +232,36 @@ fn place(image: &Path) -> PathBuf {
     fs::canonicalize(image).unwrap_or(image.to_path_buf())
 }
 
-/// An edit of the image may have been cut, although there is no sheet to be read. A program that began anew has
-/// said that it is finished.
-fn without_sheet(args: &Args, path: &Path, is_anew: bool, why: Failure) -> Failure {
-    if !is_anew {
-        let image = names::word(path);
-        let cut = format!(
-            "; there is the journal of an edit of this image: unless another program is at it now, `counter \
-             recover {image}` finishes it"
-        );
-        return if journal::is_there(&place(path)) { why.then(cut, Vec::new()) } else { why };
-    }
-    let finished = match opened(args, path, true) {
-        Ok((_, finished)) => finished,
-        Err(why) => return why,
-    };
-    let Some(Finished { words, line: Some(line), on, .. }) = &finished else { return why };
-    let on = on.as_deref().unwrap_or_default();
-    let then = format!("; line {} is done, and no other was run; {on}", line.number);
-    why.then(then, of_cut(args, line, Some(words)))
-}
-
-/// A program that began anew in the midst of a line: of which sheet, and with which line the first one began.
-/// It knows that from its own name.
-struct Anew {
-    first: u32,
-    sum: String,
-}
-
-impl Anew {
-    fn name(&self) -> OsString {
-        format!("counter:{}:{}", self.first, self.sum).into()
-    }
-
-    fn this() -> Option<Anew> {
-        let name = env::args_os().next()?.into_string().ok()?;
-        let (first, sum) = name.strip_prefix("counter:")?.split_once(':')?;
-        Some(Anew { first: first.parse().ok()?, sum: sum.into() })
-    }
-
-    /// The sheet, if it is the same still.
-    fn read(&self, file: &Path) -> Outcome<Sheet> {
-        match Sheet::read_again(file) {
-            Ok(sheet) if sha256::hex(&sheet.sum) == self.sum => Ok(sheet),
-            Ok(_) => {
-                let text = format!("{}: another sheet is there now", names::file(file));
-                Err(Failure::error(NO_INPUT, text))
-            }
-            Err(why) => Err(Failure::error(NO_INPUT, why.to_string())),
-        }
-    }
+/// An edit of the image may have been cut, although there is no sheet to be read.
+fn without_sheet(path: &Path, why: Failure) -> Failure {
+    let image = names::word(path);
+    let cut = format!(
+        "; there is the journal of an edit of this image: unless another program is at it now, `counter recover \
+         {image}` finishes it"
+    );
+    if beside::is_cut(&place(path)) { why.then(cut, Vec::new()) } else { why }
 }
 
 struct Run<'a> {
     args: &'a Args,
     path: &'a Path,
     sheet: Sheet,
-    /// The line with which it begins, and the one with which the program did that began before.
+    /// The line with which it begins.
     begin: u32,
-    first: u32,
     /// An edit that was cut before, in words.
     finished: Option<String>,
     since: Instant,
     /// The table's size before the first line.
     table: u32,
-    /// As the lines so far leave it; of a dry run header and table alone.
+    /// As the lines so far leave it, in what is looked at of it.
     image: Image,
+    writer: Writer,
+    /// What the lines of a dry run are decided on.
+    outline: Option<Outline>,
     desk: Desk,
     disc: Disc,
     turn: Turn,
     kept: Option<Kept>,
-    /// The line before, whose journal stays until the next has one.
-    standing: Option<Done>,
     /// Whether the image was.
     written: bool,
     results: Vec<Json>,
@@ -314,10 +277,7 @@ impl Run<'_> {
                 return Err(self.stopped(n, why));
             }
         }
-        if let Err(stays) = self.end() {
-            return Err(stays.then("; all lines are done".into(), self.fields(None)));
-        }
-        let ran = in_lines(self.sheet.count() + 1 - self.first);
+        let ran = in_lines(self.sheet.count() + 1 - self.begin);
         let words = match self.written {
             true => format!("done: {ran}, written and synced\n"),
             false => format!("done: {ran}, there was nothing to write\n"),
@@ -330,6 +290,8 @@ impl Run<'_> {
         if self.args.dry {
             return say(&last);
         }
+        // Its journal goes, and the image is free.
+        drop(self.writer);
         match self.unsaid {
             None => finish_as(&last, "during the sheet", "the sheet is done and synced"),
             Some(why) => {
@@ -352,94 +314,69 @@ impl Run<'_> {
 
     fn line(&mut self, n: u32) -> Outcome<()> {
         let line = self.sheet.line(n);
-        let (name, alone) = (line.kind.name(), sheet::written(slice::from_ref(&line)));
+        let name = line.kind.name();
         let wish = Wish::of_line(line);
-        let call = Call::of_line(&wish, &alone, &self.image, &mut self.desk);
-        let what = format!("line {n} of {}: trying", self.sheet.count());
-        let progress = Progress::within(self.since, &what, 0);
-        let (image, desk, disc) = (&self.image, &mut self.desk, &self.disc);
-        let trial = try_out(&wish, &call, image, desk, disc, self.turn.clone())?;
-        drop(progress);
+        let call = Call::of_line(&wish, &self.image, &mut self.desk)?;
+        let decision = self.decided(n, &wish, &call)?;
         let told = match self.args.json {
             true => {
-                self.results.push(self.result(n, name, &wish, &call, &trial));
+                self.results.push(self.result(n, name, &wish, &call, &decision));
                 None
             }
             false => {
-                let mut told = answer(&wish, &call, &self.disc, &trial);
+                let mut told = answer(&wish, &call, &self.disc, &decision);
                 if self.args.dry {
-                    told.extend(record_after(&trial).into_bytes());
+                    told.extend(record_after(&decision).into_bytes());
                 }
                 Some(led(format!("line {n}: ").as_bytes(), &told))
             }
         };
-        match self.args.dry {
-            true => self.leave(trial),
-            false => self.carry_out(n, &wish, &call, trial).inspect_err(|_| {
-                self.results.pop();
-            })?,
-        }
+        let done = match &self.outline {
+            Some(outline) => {
+                self.writer.stop();
+                carry::declined(&self.image, &mut self.writer)
+                    .and_then(|()| outline.put(&decision.planned, &self.image))
+            }
+            None => self.carry_out(n, &wish, &decision),
+        };
+        done.inspect_err(|_| _ = self.results.pop())?;
+        (self.disc, self.turn) = (decision.after, decision.turn);
         self.tell(told)
     }
 
-    fn carry_out(&mut self, n: u32, wish: &Wish, call: &Call, trial: Trial) -> Outcome<()> {
-        let Trial { found, after, change, given, turn, .. } = trial;
-        carry::enough_room(&self.image, &change)?;
-        let is_written = !change.is_nothing();
+    fn decided(&mut self, n: u32, wish: &Wish, call: &Call) -> Outcome<Decision> {
+        let (of, kept) = (self.sheet.count(), self.kept.as_ref());
         let Sheet { place, sum, .. } = &self.sheet;
-        let line =
-            journal::Line { number: n, of: self.sheet.count(), sheet: place.clone(), sum: *sum };
-        let work = Work {
+        let line = beside::Line { number: n, of, sheet: place.clone(), sum: *sum };
+        let asked = Asked {
             wish,
             call,
-            change,
-            given: (given, turn.team),
-            answer: (found, turn.account.record),
-            record: turn.account.text(),
-            line: Some(line),
-            rescue: self.rescue(n),
-            since: self.since,
+            before: &self.disc,
+            turn: &self.turn,
+            kept,
+            clip: None,
+            note: note(wish, self.turn.team, kept, Some(line)),
         };
-        let done = carry::carry_out(work, &mut self.image, &mut self.desk, self.kept.as_mut())?;
-        (self.standing, self.disc, self.turn) = (Some(done), after, turn);
-        self.written |= is_written;
+        let what = format!("line {n} of {of}: trying");
+        let _progress = Progress::within(self.since, &what, 0);
+        decide(&asked, &mut self.writer, &mut self.image, &mut self.desk)
+    }
+
+    fn carry_out(&mut self, n: u32, wish: &Wish, decision: &Decision) -> Outcome<()> {
+        let work = Work { wish, decision, line: Some((n, self.sheet.count())), since: self.since };
+        match decision.is_nothing && self.kept.is_none() {
+            true => {
+                self.writer.stop();
+                carry::declined(&self.image, &mut self.writer)?;
+            }
+            false => {
+                carry::carry_out(&work, &self.image, &mut self.writer, self.kept.as_mut())?;
+            }
+        }
+        self.written |= !decision.is_nothing;
         // The next one is not begun yet.
         signals::begin_writing(true);
         Ok(())
-    }
-
-    /// As what the program begins anew in the midst of a line: it finishes that, and goes on.
-    fn rescue(&self, n: u32) -> Vec<OsString> {
-        if n == self.sheet.count() {
-            return carry::recovery(self.args, &self.image);
-        }
-        let anew = Anew { first: self.first, sum: sha256::hex(&self.sheet.sum) };
-        let mut words: Vec<OsString> =
-            vec![anew.name(), "sheet".into(), "--from".into(), (n + 1).to_string().into()];
-        let flags = [(self.args.json, "--json"), (self.args.raw, "--bytes")];
-        words.extend(flags.iter().filter(|(given, _)| *given).map(|(_, flag)| flag.into()));
-        let record = self.args.record.as_ref().map(|file| file.as_os_str().to_os_string());
-        for (flag, value) in [("--record", record), ("--team", self.args.team.clone())] {
-            words.extend(value.into_iter().flat_map(|value| [flag.into(), value]));
-        }
-        let files = [self.path, &self.sheet.file].map(|path| path.as_os_str().to_os_string());
-        words.into_iter().chain(["--".into()]).chain(files).collect()
-    }
-
-    /// What a line leaves that was tried alone: whoever opens the image looks at nothing else.
-    fn leave(&mut self, trial: Trial) {
-        let Trial { after, change, turn, .. } = trial;
-        let (at, _, size) = change.word();
-        let (at, table) = (at as usize, change.table as usize);
-        let bytes = self.image.bytes_mut();
-        bytes[at..][..size.len()].copy_from_slice(&size);
-        bytes[table..][..change.new.len()].copy_from_slice(&change.new);
-        (self.disc, self.turn) = (after, turn);
-    }
-
-    /// Takes the journal of the last line away.
-    fn end(&mut self) -> Outcome<()> {
-        self.standing.take().map_or(Ok(()), Done::end)
     }
 
     // What is said ------------------------------------------------------------------------
@@ -469,14 +406,11 @@ impl Run<'_> {
         let (count, dry) = (self.sheet.count(), self.args.dry);
         let why = why.at(&format!("{}, line {n} of {count}", names::file(&self.sheet.file)));
         let is_cut = why.status() == CUT;
-        if !is_cut && let Err(stays) = self.end() {
-            return stays.then(format!(". Then {why}"), self.fields(Some(n)));
-        }
         if !self.args.json && self.unsaid.is_none() {
             let left = self.left();
             let _ = say(&if dry { led(b"dry run: ", &left) } else { left });
         }
-        let (first, last) = (self.first, n - 1);
+        let (first, last) = (self.begin, n - 1);
         let ran = match (dry, n - first) {
             (true, 0) => "no line would run".into(),
             (true, 1) => format!("line {last} would run"),
@@ -501,12 +435,12 @@ impl Run<'_> {
 
     /// What the answer holds besides its status; the line is one that did not run.
     fn fields(&mut self, line: Option<u32>) -> Vec<(&'static str, Json)> {
-        let ran = line.unwrap_or(self.sheet.count() + 1) - self.first;
+        let ran = line.unwrap_or(self.sheet.count() + 1) - self.begin;
         vec![
             ("edit", self.args.form.name.into()),
             ("sheet", names::file(&self.sheet.file).into()),
             ("lines", self.sheet.count().into()),
-            ("from", self.first.into()),
+            ("from", self.begin.into()),
             ("ran", ran.into()),
             ("line", line.into()),
             ("dry_run", self.args.dry.into()),
@@ -517,9 +451,9 @@ impl Run<'_> {
         ]
     }
 
-    fn result(&self, n: u32, name: &str, wish: &Wish, call: &Call, trial: &Trial) -> Json {
+    fn result(&self, n: u32, name: &str, wish: &Wish, call: &Call, decision: &Decision) -> Json {
         let [path, path_bytes] = json::path(wish.path().unwrap_or_default());
-        let written = !self.args.dry && !trial.change.is_nothing();
+        let written = !self.args.dry && !decision.is_nothing;
         let mut fields = vec![
             ("line", n.into()),
             ("edit", name.into()),
@@ -527,13 +461,13 @@ impl Run<'_> {
             path_bytes,
             ("written", written.into()),
         ];
-        fields.extend(edited::answer(wish, call, &self.disc, trial));
-        fields.push(("record", trial.turn.json(trial.after.opened.disc_end)));
+        fields.extend(edited::answer(wish, call, &self.disc, decision));
+        fields.push(("record", decision.turn.json(decision.after.opened.disc_end)));
         Json::Object(fields)
     }
 }
 
 /// The record as a line leaves it.
-fn record_after(trial: &Trial) -> String {
-    trial.turn.line(trial.after.opened.disc_end)
+fn record_after(decision: &Decision) -> String {
+    decision.turn.line(decision.after.opened.disc_end)
 }

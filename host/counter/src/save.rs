@@ -1,9 +1,9 @@
 //! New files: what cannot be finished is taken away again, and nothing is overwritten.
 
+use crate::beside;
 use crate::disk;
 use crate::failure::{CANNOT_CREATE, Failure, INPUT_OUTPUT, Outcome};
 use crate::image::Image;
-use crate::journal;
 use crate::os;
 use crate::progress::Progress;
 use counter_sys::Window;
@@ -50,11 +50,10 @@ pub fn vacant(path: &Path) -> Outcome<()> {
     }
 }
 
-/// The same of a new image, and that something can have its name and those beside it: a journal there would
-/// be taken for one of it, and no edit could make one whose name is too long.
+/// The same of a new image, and that something can have its name and its journal's: one that is there would be
+/// taken for one of it, and no edit could make one whose name is too long.
 pub fn vacant_image(path: &Path) -> Outcome<()> {
-    let beside = [journal::beside, journal::early_beside, journal::clip_beside];
-    for path in [path.to_path_buf()].into_iter().chain(beside.map(|beside| beside(path))) {
+    for path in [path.to_path_buf(), beside::beside(path)] {
         vacant(&path)?;
         match fs::symlink_metadata(&path) {
             Err(e) if e.kind() != io::ErrorKind::NotFound => return Err(not_made(&path, &e)),

@@ -1,9 +1,9 @@
 //! An edit sheet: a list of edits in one piece of bytes. Whether bytes are one the library tells; which lines
 //! they have is read here, to be told and to be run one by one, and held to what it tells.
 
+use crate::beside::{self, LONGEST_SHEET};
 use crate::failure::{DATA, Failure, INTERNAL, NO_INPUT, Outcome};
 use crate::image::cannot_open;
-use crate::journal::{self, LONGEST_SHEET};
 use crate::names;
 use crate::sha256::Sum;
 use crate::text::{counted, grouped};
@@ -102,26 +102,15 @@ impl Sheet {
         };
         // One that is read from a pipe has no place.
         let place = fs::canonicalize(file).unwrap_or(file.to_path_buf());
-        let sum = journal::sum_of_sheet(&bytes);
+        let sum = beside::sum_of(&bytes);
         Ok(Sheet { file: file.to_path_buf(), place, sum, bytes, lines })
-    }
-
-    /// The same once more. A pipe has nothing left to read.
-    pub fn read_again(file: &Path) -> Outcome<Sheet> {
-        match fs::metadata(file) {
-            Ok(told) if !told.is_file() => {
-                let text = format!("{}: no file, to be read again", names::file(file));
-                Err(Failure::error(NO_INPUT, text))
-            }
-            _ => Sheet::read(file),
-        }
     }
 
     /// The name under which another program finds it, if there is one.
     pub fn named(&self) -> Option<&Path> {
         let is_file = |path: &Path| fs::metadata(path).is_ok_and(|told| told.is_file());
         let mut names = [&self.file, &self.place].map(PathBuf::as_path).into_iter();
-        names.find(|path| !journal::is_of_a_run(path) && is_file(path))
+        names.find(|path| !beside::is_of_a_run(path) && is_file(path))
     }
 
     /// How many lines it has.

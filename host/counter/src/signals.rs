@@ -1,11 +1,11 @@
 //! Signals: those that end the program at once, those that wait while the image is written, and the
 //! one that says that a mapped page could not be had.
 
-use crate::failure::{CUT, INPUT_OUTPUT};
-use std::ffi::{CString, OsString, c_char};
+use crate::failure::INPUT_OUTPUT;
+use std::ffi::{CString, c_char};
 use std::fmt::Arguments;
 use std::io::{self, IsTerminal, Write};
-use std::os::unix::ffi::{OsStrExt, OsStringExt};
+use std::os::unix::ffi::OsStrExt;
 use std::path::Path;
 use std::ptr;
 use std::sync::OnceLock;
@@ -52,15 +52,14 @@ unsafe extern "C" {
     fn sigpending(set: *mut Set) -> i32;
     fn write(fd: i32, buf: *const u8, len: usize) -> isize;
     fn unlink(path: *const c_char) -> i32;
-    fn execv(path: *const c_char, argv: *const *const c_char) -> i32;
     fn _exit(status: i32) -> !;
 }
 
 /// Those that people send.
 const SENT: [i32; 4] = [SIGHUP, SIGINT, SIGQUIT, SIGTERM];
 
-/// How far an edit is: nothing was written; nothing but free space, so that it can be given up; it is
-/// finished whatever comes; it is given up.
+/// How far an edit, or what else is made, is: nothing is begun; it can be given up; it is finished whatever comes; it
+/// is given up.
 const READING: u8 = 0;
 const FREE: u8 = 1;
 const FOR_GOOD: u8 = 2;
@@ -74,7 +73,6 @@ static MAKING: AtomicBool = AtomicBool::new(false);
 /// Signals that whoever started the program had blocked.
 static BLOCKED: OnceLock<u64> = OnceLock::new();
 static UNFINISHED: AtomicPtr<c_char> = AtomicPtr::new(ptr::null_mut());
-static RESCUE: AtomicPtr<*const c_char> = AtomicPtr::new(ptr::null_mut());
 /// When writing began, and how many milliseconds an edit took that was finished before; how many milliseconds
 /// later it is expected to end, and how many thousandths of what is done are left.
 static BEGUN: OnceLock<Instant> = OnceLock::new();
@@ -90,11 +88,6 @@ const CUT_MAKING: &[u8] =
 const CUT_NEW: &[u8] =
     b"counter: input/output error: a file of DIR became shorter, or the disk failed or is full; nothing is left \
       of the new image\n";
-const CUT_WRITING: &[u8] =
-    b"counter: the disk failed or is full in the midst of the edit; it is now finished from the journal\n";
-const CUT_FOR_GOOD: &[u8] =
-    b"counter: the image holds a part of the edit. Make room on the disk, then: counter recover IMAGE\n";
-
 /// How a signal that people send is called.
 fn called(number: i32) -> &'static str {
     match number {
@@ -200,35 +193,21 @@ fn stop(number: i32) {
     }
 }
 
-/// A mapped page could not be had, and there is nothing to go back to. In the midst of an edit the program
-/// starts anew as `recover`, which writes without a mapping. Before there is a journal nothing was written.
+/// A mapped page could not be had, and there is nothing to go back to. No image that was there is written through a
+/// mapping, so nothing of one is lost.
 extern "C" fn cut_off(_: i32) {
-    let rescue = RESCUE.load(Ordering::SeqCst);
-    let writing = match STAGE.load(Ordering::SeqCst) {
-        READING => false,
-        FREE | GIVEN_UP => !rescue.is_null(),
-        _ => true,
-    };
     let unfinished = UNFINISHED.load(Ordering::SeqCst);
-    let text = match (writing, unfinished.is_null()) {
-        (true, _) => CUT_WRITING,
-        (false, true) => CUT_READING,
-        (false, false) if is_making() => CUT_NEW,
-        (false, false) => CUT_MAKING,
+    let text = match unfinished.is_null() {
+        true => CUT_READING,
+        false if is_making() => CUT_NEW,
+        false => CUT_MAKING,
     };
     unsafe {
-        if !writing && !unfinished.is_null() {
+        if !unfinished.is_null() {
             unlink(unfinished);
         }
         write(2, text.as_ptr(), text.len());
-        if !writing {
-            _exit(INPUT_OUTPUT.into())
-        }
-        if !rescue.is_null() {
-            execv(c"/proc/self/exe".as_ptr(), rescue);
-        }
-        write(2, CUT_FOR_GOOD.as_ptr(), CUT_FOR_GOOD.len());
-        _exit(CUT.into())
+        _exit(INPUT_OUTPUT.into())
     }
 }
 
@@ -246,20 +225,18 @@ pub fn catch_signals() {
         signal(SIGBUS, cut_off as *const () as usize);
         // A write past the limit of a file's size is an error like others.
         signal(SIGXFSZ, SIG_IGN);
-        // A rescue begins inside the handler, where it is blocked.
-        pthread_sigmask(SIG_UNBLOCK, &Set::one(SIGBUS), ptr::null_mut());
     }
 }
 
-/// From here on the image is written: every signal waits for the end, but for the one that a failing page
-/// sends. Those that people send are answered. An edit that writes to free space first can be given up
-/// until `no_way_back`; one that a signal came before is given up at once.
-pub fn begin_writing(free_space_first: bool) {
+/// From here on something is written: every signal waits for the end, but for the one that a failing page
+/// sends. Those that people send are answered. What can be given up can be until `no_way_back`; before which a
+/// signal came, is given up at once.
+pub fn begin_writing(can_be_given_up: bool) {
     let _ = BEGUN.set(Instant::now());
     BEFORE.fetch_add(now(), Ordering::SeqCst);
     expect(1, 0);
-    STAGE.store(if free_space_first { FREE } else { FOR_GOOD }, Ordering::SeqCst);
-    if free_space_first && CAUGHT.load(Ordering::SeqCst) != 0 {
+    STAGE.store(if can_be_given_up { FREE } else { FOR_GOOD }, Ordering::SeqCst);
+    if can_be_given_up && CAUGHT.load(Ordering::SeqCst) != 0 {
         STAGE.store(GIVEN_UP, Ordering::SeqCst);
     }
     let_others_wait();
@@ -291,33 +268,10 @@ pub fn given_up() -> Option<i32> {
     given_up.then(|| CAUGHT.load(Ordering::SeqCst))
 }
 
-/// An error if the edit is given up.
-pub fn go_on() -> io::Result<()> {
-    match given_up() {
-        None => Ok(()),
-        Some(_) => Err(io::ErrorKind::Interrupted.into()),
-    }
-}
-
-/// From here on the edit is finished, unless it was given up before.
-pub fn no_way_back() -> io::Result<()> {
+/// From here on it is finished, unless it was given up before: then the signal.
+pub fn no_way_back() -> Option<i32> {
     let _ = STAGE.compare_exchange(FREE, FOR_GOOD, Ordering::SeqCst, Ordering::SeqCst);
-    go_on()
-}
-
-/// From here on there is a journal: if a page of the image fails, the program begins anew with these words,
-/// finishes the edit from it, and tells that as the edit would have been.
-pub fn rescue(words: Vec<OsString>) {
-    let words: Result<Vec<CString>, _> =
-        words.into_iter().map(|word| CString::new(word.into_vec())).collect();
-    // Never given back: the handler may be using it.
-    let words = words.ok().map(|words| {
-        let mut words: Vec<_> =
-            words.into_iter().map(|word| word.into_raw().cast_const()).collect();
-        words.push(ptr::null());
-        words.leak().as_mut_ptr()
-    });
-    RESCUE.store(words.unwrap_or(ptr::null_mut()), Ordering::SeqCst);
+    given_up()
 }
 
 /// A signal that came or waits since the image was written and would end the program, if one does.
@@ -368,11 +322,6 @@ pub fn end_by(number: i32) -> i32 {
         raise(number);
     }
     128 + number
-}
-
-/// As if a mapped page could not be had; for a test.
-pub fn lose_page() {
-    unsafe { raise(SIGBUS) };
 }
 
 #[cfg(test)]

@@ -2,11 +2,11 @@
 
 use crate::account::Turn;
 use crate::call::{Call, What, Wish};
+use crate::decision::Decision;
 use crate::disc::{Disc, Kind, Node};
 use crate::maximum::Maximum;
 use crate::names::{self, shown};
 use crate::text::{counted, grouped, size};
-use crate::trial::Trial;
 use counter_sys::MOST_PATH;
 use std::collections::HashSet;
 use std::io::Write;
@@ -16,11 +16,11 @@ fn named(out: &mut Vec<u8>, before: &str, path: &[u8], after: &str) {
     out.extend([before.as_bytes(), &shown(path), after.as_bytes(), b"\n"].concat());
 }
 
-/// `trial` is the edit as it was tried.
-pub fn report(wish: &Wish, call: &Call, before: &Disc, trial: &Trial) -> Vec<u8> {
-    let mut out = answer(wish, call, before, trial);
-    if trial.maximum.is_none() {
-        out.extend(left(before.opened.fst_size, &trial.after, &trial.turn));
+/// `decision` is the edit as it was decided on.
+pub fn report(wish: &Wish, call: &Call, before: &Disc, decision: &Decision) -> Vec<u8> {
+    let mut out = answer(wish, call, before, decision);
+    if decision.maximum.is_none() {
+        out.extend(left(before.opened.fst_size, &decision.after, &decision.turn));
     }
     out
 }
@@ -36,26 +36,26 @@ pub fn left(old: u32, after: &Disc, turn: &Turn) -> Vec<u8> {
 }
 
 /// What the edit did, but for what it leaves.
-pub fn answer(wish: &Wish, call: &Call, before: &Disc, trial: &Trial) -> Vec<u8> {
-    let (after, nothing) = (&trial.after, trial.change.is_nothing());
+pub fn answer(wish: &Wish, call: &Call, before: &Disc, decision: &Decision) -> Vec<u8> {
+    let (after, nothing) = (&decision.after, decision.is_nothing);
     let mut out = Vec::new();
-    if let Some(maximum) = &trial.maximum {
-        stated(&mut out, trial.change.maximum, maximum);
+    if let Some(maximum) = &decision.maximum {
+        stated(&mut out, decision.stated, maximum);
         return out;
     }
     match call.what {
         What::MakeFolders(_) => {
-            named_as(&mut out, "made ", &new_entries(call, before, trial));
+            named_as(&mut out, "made ", &new_entries(call, before, decision));
             if out.is_empty() {
                 let anew = if nothing { "" } else { "; the table was written anew" };
                 let _ = writeln!(out, "every folder of the path was there{anew}");
             }
         }
-        What::Insert(..) => named_as(&mut out, "added ", &new_entries(call, before, trial)),
-        What::InsertFolder(..) => named_as(&mut out, "made ", &new_entries(call, before, trial)),
+        What::Insert(..) => named_as(&mut out, "added ", &new_entries(call, before, decision)),
+        What::InsertFolder(..) => named_as(&mut out, "made ", &new_entries(call, before, decision)),
         What::Move(at, _) | What::Resize(at, _) | What::Fill(at, _) => {
             placed(&mut out, wish, &before.nodes[at as usize], &after.nodes[at as usize], nothing);
-            match lost(wish, call, before, trial) {
+            match lost(wish, call, before, decision) {
                 0 => {}
                 lost => out.extend(lost_words(wish, lost).as_bytes()),
             }
@@ -63,10 +63,10 @@ pub fn answer(wish: &Wish, call: &Call, before: &Disc, trial: &Trial) -> Vec<u8>
         What::Rewrite if nothing => out.extend(b"the table is as a rewrite leaves it\n"),
         _ => out.extend(b"the table was written anew\n"),
     }
-    if let Some((first, last)) = renumbered(call, before, trial) {
+    if let Some((first, last)) = renumbered(call, before, decision) {
         let _ = writeln!(out, "entries {first} to {last} have higher numbers now");
     }
-    for note in notes(call, before, trial, shown) {
+    for note in notes(call, before, decision, shown) {
         out.extend([b"note: ", &note[..], b"\n"].concat());
     }
     out
@@ -108,9 +108,9 @@ fn named_as(out: &mut Vec<u8>, what: &str, nodes: &[&Node]) {
 }
 
 /// Those that the edit made.
-fn new_entries<'a>(call: &Call, before: &Disc, trial: &'a Trial) -> Vec<&'a Node> {
-    let after = &trial.after;
-    match (call.what, trial.found) {
+fn new_entries<'a>(call: &Call, before: &Disc, decision: &'a Decision) -> Vec<&'a Node> {
+    let after = &decision.after;
+    match (call.what, decision.found) {
         (What::Insert(..) | What::InsertFolder(..), Some(number)) => {
             vec![&after.nodes[number as usize]]
         }
@@ -124,8 +124,8 @@ fn new_entries<'a>(call: &Call, before: &Disc, trial: &'a Trial) -> Vec<&'a Node
 }
 
 /// The first and the last of the entries that have other numbers afterwards: those behind the new one.
-pub fn renumbered(call: &Call, before: &Disc, trial: &Trial) -> Option<(u32, u32)> {
-    let first = new_entries(call, before, trial).first()?.number;
+pub fn renumbered(call: &Call, before: &Disc, decision: &Decision) -> Option<(u32, u32)> {
+    let first = new_entries(call, before, decision).first()?.number;
     let last = before.nodes.len() as u32 - 1;
     (first <= last).then_some((first, last))
 }
@@ -134,14 +134,14 @@ pub fn renumbered(call: &Call, before: &Disc, trial: &Trial) -> Option<(u32, u32
 pub fn notes(
     call: &Call,
     before: &Disc,
-    trial: &Trial,
+    decision: &Decision,
     spell: fn(&[u8]) -> Vec<u8>,
 ) -> Vec<Vec<u8>> {
     if let What::Move(_, to) = call.what {
-        let notes = places(to, trial.after.opened.disc_end);
+        let notes = places(to, decision.after.opened.disc_end);
         return notes.into_iter().map(String::into_bytes).collect();
     }
-    of_new(&new_entries(call, before, trial), &trial.after, spell)
+    of_new(&new_entries(call, before, decision), &decision.after, spell)
 }
 
 /// What there is to know of new entries, none of which is the root.
@@ -221,14 +221,14 @@ fn without_case(
 
 /// How many bytes that the file holds are gone afterwards: those that a shrink cuts, and all of them where a
 /// fill writes.
-pub fn lost(wish: &Wish, call: &Call, before: &Disc, trial: &Trial) -> u64 {
+pub fn lost(wish: &Wish, call: &Call, before: &Disc, decision: &Decision) -> u64 {
     let of = |disc: &Disc| match call.file().map(|at| disc.nodes[at as usize].kind) {
         Some(Kind::File { size, .. }) => u64::from(size),
         _ => 0,
     };
     match wish {
-        Wish::Resize(..) => of(before).saturating_sub(of(&trial.after)),
-        Wish::Fill(..) if !trial.change.is_nothing() => of(before),
+        Wish::Resize(..) => of(before).saturating_sub(of(&decision.after)),
+        Wish::Fill(..) if !decision.is_nothing => of(before),
         _ => 0,
     }
 }

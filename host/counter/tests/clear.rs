@@ -1054,6 +1054,11 @@ fn an_image_whose_name_is_escaped() {
     let line = r"counter move $'a\x0a\'b\\\xff.iso' /a 0x600";
     assert_eq!(asked.out.lines().find(|line| line.starts_with("counter ")), Some(line));
     let run = in_shell(&temp, format!("exec bash -c {}", quoted(line)).as_bytes());
+    // It is the image, but none that is edited, since the name is no UTF-8.
+    assert!(run.status == 64 && run.err.contains("no UTF-8"), "{}", run.err);
+    let named = line.replace(r"\xff", "ü");
+    fs::rename(temp.at("").join(name), temp.at("a\n'b\\ü.iso")).unwrap();
+    let run = in_shell(&temp, format!("exec bash -c {}", quoted(&named)).as_bytes());
     assert_eq!(run.status, 0, "{}", run.err);
 }
 
@@ -1150,7 +1155,7 @@ fn what_cannot_be_asked() {
 fn an_image_of_which_an_edit_was_cut() {
     let temp = Temp::new();
     let image = temp.write("small.iso", &filled_master());
-    fs::write(journal_of(&image), b"torn").unwrap();
+    fs::write(journal_of(&image), OPEN_JOURNAL).unwrap();
     let run = on("clear", &image, &["167", "--budget", "1"]);
     assert_eq!((run.status, run.out.as_str()), (78, ""));
     let text = done("clear", &image, &["167", "--budget", "1", "--as-is"]);

@@ -1075,8 +1075,10 @@ fn a_manifest_with_lines_left_out_is_none_and_its_own_sum_is_told() {
 fn an_image_of_which_an_edit_was_cut_does_not_pass() {
     let pair = pair();
     let manifest = pair.manifest();
-    // A stray file under the journal's name keeps readers out, as a journal does.
+    // A journal that is closed, or no journal, keeps nobody out.
     fs::write(journal_of(&pair.after), b"torn").unwrap();
+    assert_eq!(pair.compare(&[]).status, 0);
+    fs::write(journal_of(&pair.after), OPEN_JOURNAL).unwrap();
     assert_eq!(pair.compare(&[]).status, 78);
     let page = pair.temp.at("page.html");
     let after = pair.after.to_str().unwrap().to_string();

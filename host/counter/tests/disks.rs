@@ -56,7 +56,7 @@ for left; do
     "$counter" recover disc.iso > "$dir/said" 2>&1 || again=$?
     sed "s/^/$fs $left: /" "$dir/said" >&2
     beside=none
-    for name in journal clip; do [ ! -e "disc.iso.counter-$name" ] || beside=$name; done
+    [ ! -e disc.iso.counter-journal ] || beside=journal
     echo "$left $status $found $again $(state) $beside"
 done
 cd /; umount "$dir/$fs"
@@ -108,15 +108,14 @@ fn nearly_full(fs: &str, size: &str, edit: &str, left: &str) {
         let [_, status, found, again, then, beside] = words[..] else { panic!("{line}") };
         match status {
             "0" => assert_eq!((found, again, then), ("after", "0", "after"), "{fs} {line}"),
-            // A copy that found no room may have left a part of it in free space.
             "74" | "73" => {
-                assert!(
-                    found == "before" || run.err.contains("may hold a part of a copy"),
-                    "{line}"
-                );
-                assert_eq!((again, then), ("0", found), "{fs} {line}");
+                assert_eq!((found, again, then), ("before", "0", "before"), "{fs} {line}")
             }
-            "78" => assert_eq!((again, then), ("0", "after"), "{fs} {line}"),
+            // Where the journal's gate was not opened, the edit was not begun.
+            "78" => {
+                assert!(again == "0" && ["before", "after"].contains(&then), "{fs} {line}");
+                assert!(then == "after" || found == "before", "{fs} {line}");
+            }
             _ => panic!("{fs} {line}: {}", run.err),
         }
         assert_eq!(beside, "none", "{fs} {line}");

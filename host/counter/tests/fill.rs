@@ -227,7 +227,7 @@ fn a_clip_from_standard_input() {
     let wanted = filled(&image, path, &[]);
     assert_eq!(fill_from(&image, path, &["--empty"], Stdio::null()).status, 0);
     assert!(fs::read(&image).unwrap() == wanted);
-    assert!(!journal_of(&image).exists() && !clip_of(&image).exists());
+    assert!(!journal_of(&image).exists());
 }
 
 /// Runs a line of the shell in the folder, with the program on its way.
@@ -281,7 +281,7 @@ fn an_empty_clip_is_not_taken_unless_it_is_meant() {
     }
     let run = shell(&temp, "counter fill usual.iso /text/en/msg.bin - </dev/null");
     assert!(run.err.contains("did the command before the | fail?"), "{}", run.err);
-    assert!(!journal_of(&image).exists() && !clip_of(&image).exists());
+    assert!(!journal_of(&image).exists());
     for meant in ["--empty", "--size 0", "--size=0 --empty"] {
         fs::copy(temp.at("usual2.iso"), &image).unwrap();
         let wanted = filled(&image, "/text/en/msg.bin", &[]);
@@ -376,7 +376,7 @@ fn a_file_of_another_image_is_a_clip() {
         assert!(on("cat", &image, &["opening.bnr"]).bytes == clip(0x1234, 23), "{from}");
     }
     assert_eq!(State::of(&other), kept);
-    assert!(!journal_of(&image).exists() && !clip_of(&image).exists());
+    assert!(!journal_of(&image).exists());
 }
 
 #[test]
@@ -427,15 +427,14 @@ fn another_image_that_cannot_be_read_is_told_and_nothing_is_written() {
     done("fill", &image, &["/opening.bnr", "--from", other.to_str().unwrap()]);
 }
 
-/// The edit takes such a file away before it begins.
+/// The edit writes such a file while it reads the clip.
 #[test]
-fn a_clip_by_the_name_of_a_kept_one_or_of_a_journal_is_not_taken() {
+fn a_clip_by_the_name_of_a_journal_is_not_taken() {
     let temp = Temp::new();
     let image = usual_master(&temp);
     let before = State::of(&image);
     let bytes = clip(0x1000, 24);
-    for name in ["usual.iso.counter-clip", "usual.iso.counter-journal", "k.iso.counter-journal.new"]
-    {
+    for name in ["usual.iso.counter-journal", "k.iso.counter-journal"] {
         let left = temp.write(name, &bytes);
         std::os::unix::fs::symlink(&left, temp.at("link")).unwrap();
         let mut ways = vec![name, "link"];
@@ -446,7 +445,7 @@ fn a_clip_by_the_name_of_a_kept_one_or_of_a_journal_is_not_taken() {
                 let run =
                     shell(&temp, &format!("counter fill usual.iso /opening.bnr {more} {clip}"));
                 assert_eq!(run.status, 64, "{name} {clip}: {}", run.err);
-                assert!(run.err.contains("or a clip that is kept; "), "{}", run.err);
+                assert!(run.err.contains("this is a name that a journal has; "), "{}", run.err);
                 assert!(fs::read(&left).unwrap() == bytes, "{name} {clip}");
                 assert_eq!(State::of(&image), before, "{name} {clip}");
             }
@@ -510,24 +509,13 @@ fn a_clip_that_cannot_be_had_is_told_and_nothing_is_written() {
     assert_eq!(on("fill", &image, &["opening.bnr"]).status, 64);
     assert_eq!(on("fill", &temp.at("nothing"), &["a", link.to_str().unwrap()]).status, 66);
     assert_eq!(State::of(&image), before);
-    assert!(!clip_of(&image).exists());
 }
 
 #[test]
-fn a_clip_that_cannot_be_kept_ends_the_edit_before_it_begins() {
+fn a_clip_that_becomes_shorter_ends_the_edit_before_it_begins() {
     let temp = Temp::new();
     let image = usual_master(&temp);
-    let given = temp.write("given", &clip(0x100, 9));
-    fs::create_dir(clip_of(&image)).unwrap();
     let before = State::of(&image);
-    let run = on("fill", &image, &["opening.bnr", given.to_str().unwrap()]);
-    assert_eq!(run.status, 73, "{}", run.err);
-    assert!(run.err.contains("the clip cannot be kept"), "{}", run.err);
-    assert!(run.err.contains("nothing was written"), "{}", run.err);
-    assert_eq!(State::of(&image), before);
-    assert!(!journal_of(&image).exists());
-    fs::remove_dir(clip_of(&image)).unwrap();
-
     // A file of the system that says it has 4,096 bytes, and has fewer.
     let short = Path::new("/sys/kernel/mm/transparent_hugepage/enabled");
     if !short.exists() {
@@ -538,7 +526,7 @@ fn a_clip_that_cannot_be_kept_ends_the_edit_before_it_begins() {
     assert_eq!(run.status, 74, "{}", run.err);
     assert!(run.err.contains("it became shorter meanwhile; nothing was written"), "{}", run.err);
     assert_eq!(State::of(&image), before);
-    assert!(!journal_of(&image).exists() && !clip_of(&image).exists());
+    assert!(!journal_of(&image).exists());
 }
 
 // Refusals --------------------------------------------------------------------------------
@@ -623,25 +611,4 @@ fn a_fill_answers_in_json() {
     assert_eq!((run.status, Json::read(&run.out).at("refused").number()), (16, 16));
     let run = on("fill", &image, &["text/en/msg.bin", "/", "--json"]);
     assert_eq!((run.status, Json::read(&run.out).at("status").number()), (66, 66));
-}
-
-// A clip that is left ---------------------------------------------------------------------
-
-/// A cut before the journal was there: nothing was written, and the clip is of no use.
-#[test]
-fn a_clip_without_a_journal_is_taken_away_by_the_next_edit() {
-    let temp = Temp::new();
-    let image = usual_master(&temp);
-    let before = State::of(&image);
-    for args in [&["recover"][..], &["resize", "opening.bnr", "0x1960"], &["mkdir", "new"]] {
-        let left = clip_of(&image);
-        fs::write(&left, clip(0x1000, 15)).unwrap();
-        done("check", &image, &[]);
-        done("resize", &image, &["opening.bnr", "1", "--dry-run"]);
-        assert!(left.exists(), "{args:?}");
-        assert_eq!(State::of(&image), before, "{args:?}");
-        let run = on(args[0], &image, &args[1..]);
-        assert_eq!((run.status, run.err.as_str()), (0, ""), "{args:?}");
-        assert!(!left.exists(), "{args:?}");
-    }
 }

@@ -1,16 +1,15 @@
-//! The journal of an edit: what is said when there is one, and that a journal which is not this image's,
-//! torn or foreign, is never applied. And what each exit status says of the image when the disk is full
-//! at any step.
+//! The journal of an edit: what is said when there is one, and that a journal which is not this image's, torn,
+//! spoiled or foreign, is never applied. (Power cuts: crash.rs; kills and failing disks: cut.rs.)
 
 mod support;
-
-#[path = "../src/sum.rs"]
-mod sum;
 
 use std::fs::{self, File};
 use std::os::unix::fs::{FileExt, symlink};
 use std::path::{Path, PathBuf};
 use std::process::Command;
+use support::journal::{Journal, Note};
+use support::power::{HEAD, Random};
+use support::shim::*;
 use support::*;
 
 const END: u32 = 0x4_0000;
@@ -25,25 +24,7 @@ fn master() -> Vec<u8> {
     program_master(&entries, END, 78)
 }
 
-/// Runs an edit on a disk that is full from the n-th step on.
-fn full_from(n: u32, image: &Path, args: &[&str]) -> Run {
-    let mut command = program();
-    command.arg(args[0]).arg(image).args(&args[1..]).env("COUNTER_FULL_FROM", n.to_string());
-    command.output().unwrap().into()
-}
-
 const MOVE: [&str; 3] = ["move", "film", "0x20000"];
-
-/// The same words, with a clip of so many bytes in the place of its length.
-fn with_clip(temp: &Temp, args: &[&str]) -> Vec<String> {
-    let mut args: Vec<String> = args.iter().map(|word| word.to_string()).collect();
-    if args[0] == "fill" {
-        let clip = temp.write("clip.bin", &clip(args[2].parse().unwrap(), 7));
-        args[2] = clip.to_str().unwrap().into();
-        args.push("--empty".into());
-    }
-    args
-}
 
 /// An image whose edit was cut, with its journal, and as it is afterwards.
 struct Cut {
@@ -54,43 +35,70 @@ struct Cut {
 
 impl Cut {
     /// A move that was cut when its table was written.
-    fn new() -> Cut {
-        // Journal: create, write, sync. Image: write, sync. Journal: write, sync. The call. Sync.
-        Cut::at(9, &MOVE)
+    fn new() -> Option<Cut> {
+        let fst = get(&master(), 0x424);
+        Cut::at(&MOVE, |step| step.on == IMAGE && step.what == b'w' && step.at == u64::from(fst))
     }
 
-    /// A fill that was cut when all was written, where the file lies.
-    fn fill() -> Cut {
-        // Clip: create, write, sync. Journal: the same. The call. Sync.
-        Cut::at(8, &["fill", "d/song", "8000"])
+    /// One that was cut before anything was written to the image.
+    fn early(args: &[&str]) -> Option<Cut> {
+        Cut::at(args, |step| step.on == IMAGE && step.what == b'w')
+    }
+
+    /// A fill that was cut before its table was written, where the file lies.
+    fn fill() -> Option<Cut> {
+        let fst = get(&master(), 0x424);
+        Cut::at(&["fill", "d/song", "8000"], |step| {
+            step.on == IMAGE && step.what == b'w' && step.at == u64::from(fst)
+        })
     }
 
     /// The same elsewhere.
-    fn fill_elsewhere() -> Cut {
-        // Clip, journal. Image: write, sync. Journal: write, sync. The call. Sync.
-        Cut::at(12, &["fill", "film", "13000"])
+    fn fill_elsewhere() -> Option<Cut> {
+        let fst = get(&master(), 0x424);
+        Cut::at(&["fill", "film", "13000"], |step| {
+            step.on == IMAGE && step.what == b'w' && step.at == u64::from(fst)
+        })
     }
 
-    fn at(n: u32, args: &[&str]) -> Cut {
+    /// The disk is full from the first step on that is so.
+    fn at(args: &[&str], is_it: impl Fn(&Step) -> bool) -> Option<Cut> {
+        let shim = Shim::get()?;
         let temp = Temp::in_memory();
         let args = with_clip(&temp, args);
-        let args: Vec<&str> = args.iter().map(String::as_str).collect();
-        let whole = temp.write("whole.iso", &master());
-        done(args[0], &whole, &args[1..]);
-        let after = fs::read(&whole).unwrap();
         let image = temp.write("disc.iso", &master());
-        let run = full_from(n, &image, &args);
-        assert_eq!(run.status, 78, "{}", run.err);
-        assert!(run.err.contains("the image holds a part of the edit"), "{}", run.err);
-        assert!(run.err.contains("counter recover "), "{}", run.err);
+        let log = temp.at("log");
+        let mut command = program();
+        command.arg(&args[0]).arg(&image).args(&args[1..]);
+        shim.log(&mut command, &log);
+        let run = Run::from(command.output().unwrap());
+        assert_eq!(run.status, 0, "{args:?}: {}", run.err);
+        let after = fs::read(&image).unwrap();
+        let steps = read_log(&log).into_iter().filter(Step::counts);
+        let n = 1 + steps.collect::<Vec<_>>().iter().position(is_it).expect("such a step");
+        fs::write(&image, master()).unwrap();
+        let mut command = program();
+        command.arg(&args[0]).arg(&image).args(&args[1..]);
+        shim.full_from(&mut command, n);
+        let run = Run::from(command.output().unwrap());
+        assert_eq!(run.status, 78, "{args:?}: {}{}", run.out, run.err);
+        assert!(run.err.contains("the image may hold a part of the edit ("), "{}", run.err);
+        let recover = format!("`counter recover {}` finishes it", image.display());
+        assert!(run.err.contains(&recover), "{}", run.err);
         assert!(journal_of(&image).exists());
-        assert_eq!(clip_of(&image).exists(), args[0] == "fill");
-        Cut { temp, image, after }
+        Some(Cut { temp, image, after })
     }
 
-    fn state(&self) -> (State, Vec<u8>, Option<Vec<u8>>) {
-        let journal = fs::read(journal_of(&self.image)).unwrap();
-        (State::of(&self.image), journal, fs::read(clip_of(&self.image)).ok())
+    fn journal(&self) -> Vec<u8> {
+        fs::read(journal_of(&self.image)).unwrap()
+    }
+
+    fn put_journal(&self, bytes: &[u8]) {
+        fs::write(journal_of(&self.image), bytes).unwrap();
+    }
+
+    fn state(&self) -> (State, Vec<u8>) {
+        (State::of(&self.image), self.journal())
     }
 
     /// Changes one byte of the image.
@@ -102,9 +110,10 @@ impl Cut {
     }
 
     fn is_finished(&self) {
-        done("recover", &self.image, &[]);
+        let out = done("recover", &self.image, &[]);
+        assert!(out.starts_with("finished an edit that was cut: "), "{out}");
         assert!(fs::read(&self.image).unwrap() == self.after);
-        assert!(!journal_of(&self.image).exists() && !clip_of(&self.image).exists());
+        assert!(!journal_of(&self.image).exists());
     }
 
     /// No command touches image or journal; all say why, and what to do.
@@ -117,15 +126,34 @@ impl Cut {
             assert!(run.err.contains("take"), "{why} {args:?}: {}", run.err);
             assert!(self.state() == before, "{why} {args:?}");
         }
+        // Whoever reads is told, or reads at his own risk.
+        let run = on("check", &self.image, &[]);
+        assert_eq!(run.status, 78, "{why}: {}{}", run.out, run.err);
+        assert!(self.state() == before, "{why}");
     }
 }
 
+/// The same words, with a clip of so many bytes in the place of its length.
+fn with_clip(temp: &Temp, args: &[&str]) -> Vec<String> {
+    let mut args: Vec<String> = args.iter().map(|word| word.to_string()).collect();
+    if args[0] == "fill" {
+        let clip = temp.write("clip.bin", &clip(args[2].parse().unwrap(), 7));
+        args[2] = clip.to_str().unwrap().into();
+        args.push("--empty".into());
+    }
+    args
+}
+
+const FOREIGN: &str = "this journal cannot be used: ";
+
+// What is said ----------------------------------------------------------------------------
+
 #[test]
 fn a_cut_edit_is_told_and_finished() {
-    let cut = Cut::new();
+    let Some(cut) = Cut::new() else { return };
     let before = cut.state();
     let svg = cut.temp.at("map.svg");
-    let other = cut.temp.at("whole.iso");
+    let other = cut.temp.write("other.iso", &master());
     let other = other.to_str().unwrap();
     let page = cut.temp.at("page.html");
     let reading: [&[&str]; 9] = [
@@ -142,11 +170,8 @@ fn a_cut_edit_is_told_and_finished() {
     for args in reading {
         let run = on(args[0], &cut.image, &args[1..]);
         assert_eq!(run.status, 78, "{args:?}: {}", run.err);
-        assert!(
-            run.err.contains("an edit of this image was cut (move film to 0x20000)"),
-            "{args:?}: {}",
-            run.err
-        );
+        let told = "an edit of this image was cut (move film to 0x20000)";
+        assert!(run.err.contains(told), "{args:?}: {}", run.err);
         assert!(run.err.contains("counter recover "), "{args:?}: {}", run.err);
         // It is told of commands that take it.
         assert_eq!(run.err.contains("--as-is"), !args.contains(&"--dry-run"), "{}", run.err);
@@ -182,7 +207,7 @@ fn a_cut_edit_is_told_and_finished() {
 
 #[test]
 fn what_became_of_a_cut_edit_is_told_as_json() {
-    let cut = Cut::new();
+    let Some(cut) = Cut::new() else { return };
     let run = on("list", &cut.image, &["--json"]);
     assert_eq!(run.status, 78);
     assert_eq!(Json::read(&run.out).at("status").number(), 78);
@@ -196,24 +221,20 @@ fn what_became_of_a_cut_edit_is_told_as_json() {
     assert!(!told.at("written").flag());
     assert_eq!(told.at("record"), &Json::Null);
 
-    // A page of the image fails, and the edit is finished at once.
-    let image = cut.temp.write("disc.iso", &master());
-    let mut args = MOVE.to_vec();
-    args.push("--json");
-    let run = full_from(8, &image, &args);
-    assert_eq!(run.status, 0, "{}", run.err);
-    assert_eq!(Json::read(&run.out).at("finished").text(), "move film to 0x20000");
-    assert!(fs::read(&image).unwrap() == cut.after);
-    // The disk fails in the last sync.
-    let image = cut.temp.write("disc.iso", &master());
-    let run = full_from(9, &image, &args);
+    // The disk fails in the midst of the edit.
+    let Some(shim) = Shim::get() else { return };
+    fs::write(&cut.image, master()).unwrap();
+    let mut command = program();
+    command.arg("move").arg(&cut.image).args(&MOVE[1..]).arg("--json");
+    shim.at(&mut command, image_write(1), Do::From(FULL));
+    let run = Run::from(command.output().unwrap());
     assert_eq!(run.status, 78, "{}", run.err);
     assert_eq!(Json::read(&run.out).at("status").number(), 78);
 }
 
 #[test]
 fn the_next_edit_finishes_the_one_that_was_cut() {
-    let cut = Cut::new();
+    let Some(cut) = Cut::new() else { return };
     let run = on("resize", &cut.image, &["next", "0x600"]);
     assert_eq!(run.status, 0, "{}", run.err);
     assert!(run.err.contains("finished an edit that was cut: move film to 0x20000"), "{}", run.err);
@@ -227,86 +248,270 @@ fn the_next_edit_finishes_the_one_that_was_cut() {
     assert!(!journal_of(&cut.image).exists());
 }
 
+/// It is in the journal, whatever became of the file that was given.
 #[test]
-fn a_torn_or_foreign_journal_is_never_applied() {
-    let cut = Cut::new();
-    let path = journal_of(&cut.image);
-    let whole = fs::read(&path).unwrap();
-    let torn = "it is torn, or ";
-    for len in [0, 1, 15, 16, 100, 0x440, whole.len() / 2, whole.len() - 25] {
-        fs::write(&path, &whole[..len]).unwrap();
-        cut.is_left_alone(torn);
+fn a_cut_fill_is_finished_from_its_journal() {
+    for cut in [Cut::fill(), Cut::fill_elsewhere()] {
+        let Some(cut) = cut else { return };
+        let run = on("check", &cut.image, &[]);
+        assert_eq!(run.status, 78, "{}", run.err);
+        let told = run.err.contains("clip.bin (") && run.err.contains("was cut (fill ");
+        assert!(told, "{}", run.err);
+        fs::remove_file(cut.temp.at("clip.bin")).unwrap();
+        cut.is_finished();
     }
-    let mut random = 0x2545_F491u32;
-    for _ in 0..40 {
-        random ^= random << 13;
-        random ^= random >> 17;
-        random ^= random << 5;
+}
+
+/// Another maximum writes four bytes, and recovery no other: the table's size is none of them.
+#[test]
+fn a_maximum_that_was_cut_is_finished() {
+    let Some(cut) = Cut::early(&["maximum", "0x12345678"]) else { return };
+    let run = on("check", &cut.image, &[]);
+    assert!(run.err.contains("was cut (maximum 305,419,896)"), "{}", run.err);
+    let whole = cut.journal();
+    // Whatever the four bytes are.
+    for word in [[0, 0, 0, 0], [0x12, 0, 0, 0x78], [0, 0x34, 0x56, 0], [9, 9, 9, 9]] {
+        let file = File::options().write(true).open(&cut.image).unwrap();
+        file.write_all_at(&word, 0x42C).unwrap();
+        cut.put_journal(&whole);
+        assert_eq!(
+            done("recover", &cut.image, &[]),
+            "finished an edit that was cut: maximum 305,419,896\ndone: written and synced\n"
+        );
+        assert!(fs::read(&cut.image).unwrap() == cut.after);
+    }
+    cut.put_journal(&whole);
+    cut.spoil(0x427);
+    cut.is_left_alone(FOREIGN);
+    cut.spoil(0x427);
+    let told = json("recover", &cut.image, &[]);
+    assert_eq!(told.at("finished").text(), "maximum 305,419,896");
+    assert_eq!(told.at("record"), &Json::Null);
+    assert!(fs::read(&cut.image).unwrap() == cut.after);
+}
+
+// Journals that are none ------------------------------------------------------------------
+
+/// One that is shorter than a head, or whose gate is not open, begins no edit: image and reading are as if it were
+/// not there, and the next edit takes it away.
+#[test]
+fn a_journal_that_is_closed_begins_no_edit() {
+    let Some(cut) = Cut::early(&MOVE) else { return };
+    let whole = cut.journal();
+    let closed = |gate: u8| [&[gate], &whole[1..]].concat();
+    let mut all: Vec<Vec<u8>> =
+        [0, 1, 2, 15, 16, 100, 0x440, HEAD - 1].iter().map(|&len| whole[..len].to_vec()).collect();
+    all.extend([0, 2, 3, 0x81, 0xFE, 0xFF].map(closed));
+    all.push(b"my notes on this image\n".to_vec());
+    all.push(vec![7; 6 << 20]);
+    let before = master();
+    for journal in &all {
+        let what = format!("{} bytes, gate {:?}", journal.len(), journal.first());
+        fs::write(&cut.image, &before).unwrap();
+        cut.put_journal(journal);
+        let state = cut.state();
+        for args in [&["check"][..], &["cat", "film"], &["mkdir", "x", "--dry-run"]] {
+            let run = on(args[0], &cut.image, &args[1..]);
+            assert_eq!(run.status, 0, "{what} {args:?}: {}", run.err);
+            assert!(cut.state() == state, "{what} {args:?}");
+        }
+        let out = done("recover", &cut.image, &[]);
+        assert!(out.contains("no edit was cut"), "{what}: {out}");
+        assert!(fs::read(&cut.image).unwrap() == before, "{what}");
+        assert!(!journal_of(&cut.image).exists(), "{what}");
+        cut.put_journal(journal);
+        let run = on(MOVE[0], &cut.image, &MOVE[1..]);
+        assert_eq!((run.status, run.err.as_str()), (0, ""), "{what}");
+        assert!(fs::read(&cut.image).unwrap() == cut.after, "{what}");
+        assert!(!journal_of(&cut.image).exists(), "{what}");
+    }
+}
+
+/// An open one that lost its end is never carried out in part.
+#[test]
+fn a_journal_that_was_cut_off_is_never_applied() {
+    for cut in [Cut::early(&["mkdir", "d/x"]), Cut::early(&["fill", "d/song", "300"]), Cut::new()] {
+        let Some(cut) = cut else { return };
+        let whole = cut.journal();
+        let mut random = Random(99);
+        let mut lens: Vec<usize> =
+            (0..20).map(|_| HEAD + random.below(whole.len() - HEAD)).collect();
+        lens.extend([HEAD, HEAD + 1, whole.len() / 2, whole.len() - 9, whole.len() - 8]);
+        lens.extend([whole.len() - 7, whole.len() - 1]);
+        for len in lens.into_iter().filter(|&len| (HEAD..whole.len()).contains(&len)) {
+            cut.put_journal(&whole[..len]);
+            cut.is_left_alone(FOREIGN);
+        }
+        cut.put_journal(&whole);
+        cut.is_finished();
+    }
+}
+
+/// Whichever byte of an open journal is another one, it is not carried out at all, or exactly. (The two gates are
+/// written by themselves, and no sum can hold them: without the first there is no edit.)
+#[test]
+fn no_spoiled_byte_of_a_journal_reaches_the_image() {
+    let threads: Vec<_> =
+        [&["mkdir", "d/x"][..], &["fill", "next", "600"], &["resize", "film", "77"]]
+            .into_iter()
+            .flat_map(|args| [(args, 1), (args, 0)])
+            .map(|(args, half)| std::thread::spawn(move || spoiled(args, half)))
+            .collect();
+    let all: Vec<_> = threads.into_iter().map(|thread| thread.join().unwrap()).collect();
+    println!("bytes spoiled, refused, finished exactly: {all:?}");
+}
+
+/// Every second byte of its journal, from that one on.
+fn spoiled(args: &[&str], first: usize) -> (usize, usize, usize) {
+    let Some(cut) = Cut::early(args) else { return (0, 0, 0) };
+    let whole = cut.journal();
+    let before = fs::read(&cut.image).unwrap();
+    let mut random = Random(0x51_4EED + first as u64);
+    let (mut refused, mut finished) = (0, 0);
+    let places: Vec<usize> = (0..whole.len()).filter(|at| at % 2 == first).collect();
+    for &at in &places {
         let mut bytes = whole.clone();
-        // The mark behind the record has its own test below.
-        let at = random as usize % (bytes.len() - 24);
-        bytes[at] ^= 1 << (random >> 29);
-        fs::write(&path, &bytes).unwrap();
-        cut.is_left_alone(torn);
+        bytes[at] ^= match at % 3 {
+            0 => 1 << random.below(8),
+            _ => 1 + random.below(255) as u8,
+        };
+        cut.put_journal(&bytes);
+        fs::write(&cut.image, &before).unwrap();
+        let state = cut.state();
+        let run = on("recover", &cut.image, &[]);
+        let what =
+            format!("{args:?}, byte {at:#x}, {:#x} for {:#x}: {}", bytes[at], whole[at], run.err);
+        match run.status {
+            78 => {
+                assert!(
+                    run.err.contains("his journal ") || run.err.contains("journal was"),
+                    "{what}"
+                );
+                assert!(cut.state() == state, "{what}");
+                refused += 1;
+            }
+            0 if at == 0 => assert!(fs::read(&cut.image).unwrap() == before, "{what}"),
+            0 => {
+                assert!(fs::read(&cut.image).unwrap() == cut.after, "{what}");
+                finished += 1;
+            }
+            status => panic!("{status}: {what}"),
+        }
     }
-    fs::write(&path, b"my notes on this image\n").unwrap();
-    cut.is_left_alone(torn);
-    fs::write(&path, vec![7; 6 << 20]).unwrap();
-    cut.is_left_alone("it is too long");
+    (places.len(), refused, finished)
+}
 
-    // Of a version that is not known yet.
-    let mut bytes = whole.clone();
-    bytes[16] = 6;
-    fs::write(&path, &bytes).unwrap();
-    cut.is_left_alone("it is torn, or of a later version of counter");
-
-    fs::write(&path, &whole).unwrap();
+/// A journal with the sum that belongs to it is carried out where it can be, and else not at all: no number in it
+/// leads outside the image or the journal, nor into what is no edit's.
+#[test]
+fn a_journal_whose_numbers_lie_is_never_applied() {
+    let Some(cut) = Cut::early(&MOVE) else { return };
+    let whole = Journal::read(&cut.journal());
+    assert!(whole.bytes() == cut.journal());
+    let end = u64::from(END);
+    let edges = [0x43F, 0x427, 0x42D, 0x430, end - 1, end, end + 1, 1 << 32, 1 << 63, u64::MAX];
+    let change = |change: &dyn Fn(&mut Journal)| {
+        let mut lies = whole.clone();
+        change(&mut lies);
+        cut.put_journal(&lies.bytes());
+        cut.is_left_alone(FOREIGN);
+    };
+    for number in edges {
+        // The copy: from, to, and how long.
+        change(&|lies| lies.copy[0] = number.max(end - 0x320F));
+        change(&|lies| lies.copy[1] = number.max(end - 0x320F));
+        change(&|lies| lies.copy[2] = number.max(end));
+        // The table's place and length, and where its bytes are.
+        change(&|lies| lies.steps[1].at = number.max(end));
+        change(&|lies| lies.steps[1].len = number.max(end));
+        change(&|lies| lies.steps[1].from = number.max(1 << 31));
+        // The zeros.
+        change(&|lies| lies.steps[4].at = number.max(end));
+        change(&|lies| lies.steps[4].len = number.max(end));
+        change(&|lies| lies.record_count = number.max(0x1002));
+    }
+    // Over the header, but for its two words; over itself; out of the journal's own head.
+    for at in [0, 1, 0x41C, 0x424, 0x427, 0x42D, 0x430, 0x434, 0x43C, 0x43F] {
+        change(&|lies| (lies.steps[4].at, lies.steps[4].len) = (at, 4));
+    }
+    for to in [0x8000 - 0x320F, 0x7FFF, 0x8001, 0x8000 + 0x320F] {
+        change(&|lies| lies.copy[1] = to);
+    }
+    for from in [1, 177, HEAD as u64 - 1] {
+        change(&|lies| lies.steps[1].from = from);
+    }
+    // Of another image, by its length; a copy of that image has another number.
+    change(&|lies| lies.image_len += 1);
+    for at in [0, 0x1C, 0x427, 0x430, 0x43F] {
+        change(&|lies| lies.header[at] ^= 0x40);
+    }
+    cut.put_journal(&whole.bytes());
     cut.is_finished();
 }
 
-/// A journal with another plan, and its mark.
-fn with_sums(mut plan: Vec<u8>, mark: &[u8]) -> Vec<u8> {
-    plan.extend(sum::of(&plan).to_le_bytes());
-    let len = (plan.len() as u64).to_le_bytes();
-    plan.extend(mark);
-    plan.extend(sum::of(&[&len, mark].concat()).to_le_bytes());
-    plan
+/// A journal names a record's file and holds its text; the path has to be there, and the note to be a note.
+#[test]
+fn a_journal_without_a_note_of_its_own_is_never_applied() {
+    let Some(cut) = Cut::early(&MOVE) else { return };
+    let whole = Journal::read(&cut.journal());
+    let text = &b"counter record 1\nused 1 largest 1 edits 2\n"[..];
+    let words = whole.note().words;
+    let path = |path: &[u8]| Note { path: path.to_vec(), words: words.clone() };
+    for lies in [
+        whole.with(Some(text), &path(b"")),
+        whole.with(Some(text), &path(b"/\xFF\xFE")),
+        whole.with(None, &path(b"/\xFF\xFE")),
+        whole.with_parts(None, b""),
+        whole.with_parts(None, &[0, 0, 0]),
+        whole.with_parts(None, &[0, 0, 0, 1]),
+        whole.with_parts(Some(text), &[0xFF; 8]),
+    ] {
+        cut.put_journal(&lies.bytes());
+        cut.is_left_alone(FOREIGN);
+    }
+    cut.put_journal(&whole.bytes());
+    cut.is_finished();
 }
 
 /// What a journal says of a record is written if it is one, and over nothing but a record.
 #[test]
 fn a_journal_writes_no_file_but_a_record() {
+    let Some(cut) = Cut::early(&MOVE) else { return };
+    let whole = Journal::read(&cut.journal());
+    let words = String::from_utf8(whole.note().words).unwrap();
     let record = &b"counter record 1\nused 1 largest 1 edits 2\n"[..];
-    let teams =
-        &b"counter record 2\nused 1 largest 1 teams 1\nteam 0 limit 1 share 1 taken 1 edits 2\n"[..];
-    let torn = &teams[..teams.len() - 1];
-    let none = &b""[..];
-    // One with teams is over the same teams, and counts for one of them.
+    let before = fs::read(&cut.image).unwrap();
+    let file = fs::canonicalize(cut.temp.at("")).unwrap().join("notes");
+    let path = file.as_os_str().as_encoded_bytes().to_vec();
     for (old, new) in [
-        (none, &b"my notes\n"[..]),
+        (&b""[..], &b"my notes\n"[..]),
         (b"my notes\n", record),
-        (b"my notes\n", teams),
-        (none, teams),
-        (none, torn),
-        (record, teams),
-        (teams, record),
-        (teams, teams),
+        (b"my notes\n", b"counter record 2\n"),
+        (
+            b"",
+            b"counter record 2\nused 1 largest 1 teams 1\nteam 0 limit 1 share 1 taken 1 edits 2",
+        ),
     ] {
-        let cut = Cut::new();
-        let file = cut.temp.at("notes");
+        let _ = fs::remove_file(&file);
         if !old.is_empty() {
             fs::write(&file, old).unwrap();
         }
-        let whole = fs::read(journal_of(&cut.image)).unwrap();
-        let end = whole.len() - 24;
-        // No record, no maximum, no sheet, and the sum.
-        let mut plan = whole[..end - 48].to_vec();
-        for part in [file.as_os_str().as_encoded_bytes(), old, new, &[], &[]] {
-            plan.extend((part.len() as u64).to_le_bytes());
-            plan.extend(part);
-        }
-        fs::write(journal_of(&cut.image), with_sums(plan, &whole[end..end + 16])).unwrap();
-        cut.is_left_alone("what it has for a record is none");
+        // As its writer would note it: with the sum of what was there.
+        let sum = Command::new("sh")
+            .args(["-c", "sha256sum < \"$1\" | cut -c -64", "sh"])
+            .arg(if old.is_empty() { Path::new("/dev/null") } else { file.as_path() })
+            .output()
+            .unwrap();
+        let sum = String::from_utf8(sum.stdout).unwrap();
+        let words = words.replace("\"old\": null", &format!("\"old\": \"{}\"", sum.trim()));
+        assert!(words.contains(sum.trim()), "{words}");
+        let note = Note { path: path.clone(), words: words.into_bytes() };
+        fs::write(&cut.image, &before).unwrap();
+        cut.put_journal(&whole.with(Some(new), &note).bytes());
+        let state = cut.state();
+        let run = on("recover", &cut.image, &[]);
+        assert_eq!(run.status, 78, "{}{}", run.out, run.err);
+        assert!(cut.state() == state, "{}", run.err);
         assert_eq!(fs::read(&file).unwrap_or_default(), old);
     }
 }
@@ -315,37 +520,22 @@ fn a_journal_writes_no_file_but_a_record() {
 #[test]
 fn words_of_a_foreign_journal_are_not_obeyed() {
     for odd in ["x\u{1b}[2J\ny", "x\u{202e}\u{2066}y", "x\r\u{9b}y"] {
-        let cut = Cut::new();
-        let whole = fs::read(journal_of(&cut.image)).unwrap();
-        let end = whole.len() - 24;
-        let words = b"move film to 0x20000";
-        let at = whole.windows(words.len()).position(|part| part == words).unwrap();
-        let len = (odd.len() as u64).to_le_bytes();
-        let mut plan =
-            [&whole[..at - 8], &len, odd.as_bytes(), &whole[at + words.len()..end - 48]].concat();
-        let record = Table::of(&cut.image).record_file(2);
-        let file = cut.temp.at(odd);
-        let sheet = [&b"\x01\0\0\0\x02\0\0\0"[..], &[7; 32], odd.as_bytes()].concat();
-        let file_of = file.as_os_str().as_encoded_bytes();
-        for part in [file_of, b"", record.as_bytes(), b"", &sheet] {
-            plan.extend((part.len() as u64).to_le_bytes());
-            plan.extend(part);
-        }
-        fs::write(journal_of(&cut.image), with_sums(plan, &whole[end..end + 16])).unwrap();
-        // A record that cannot be written, one that is left, and all done.
-        fs::create_dir(&file).unwrap();
-        let runs =
-            [&["check"][..], &["mkdir", "x"], &["recover"], &["recover", "--without-record"]];
-        for args in runs {
+        let Some(cut) = Cut::early(&MOVE) else { return };
+        let whole = Journal::read(&cut.journal());
+        let escaped: String = odd.chars().map(|c| format!("\\u{:04x}", c as u32)).collect();
+        let hex: String = odd.bytes().map(|byte| format!("{byte:02x}")).collect();
+        let words = format!(
+            "{{\"edit\":\"{escaped}\",\"maximum\":false,\"team\":0,\"old\":null,\"line\":{{\"number\":1,\"of\":2,\
+             \"sheet\":\"{hex}\",\"sum\":\"{}\"}}}}",
+            "07".repeat(32)
+        );
+        let note = Note { path: Vec::new(), words: words.clone().into_bytes() };
+        cut.put_journal(&whole.with(None, &note).bytes());
+        let raw = |c: char| c != '\n' && (c.is_control() || "\u{202e}\u{2066}".contains(c));
+        for args in [&["check"][..], &["mkdir", "x", "--dry-run"], &["recover"]] {
             let run = on(args[0], &cut.image, &args[1..]);
-            assert_eq!(
-                run.status,
-                if args.len() < 2 || args[0] == "mkdir" { 78 } else { 0 },
-                "{}",
-                run.err
-            );
+            assert_eq!(run.status, if args[0] == "recover" { 0 } else { 78 }, "{}", run.err);
             let text = [run.out, run.err].concat();
-            let raw = |c: char| c != '\n' && (c.is_control() || "\u{202e}\u{2066}".contains(c));
             assert!(!text.contains(raw) && !text.contains("\ny"), "{args:?}: {text:?}");
             assert!(text.contains("x\\x") && text.contains('y'), "{args:?}: {text:?}");
         }
@@ -353,36 +543,73 @@ fn words_of_a_foreign_journal_are_not_obeyed() {
     }
 }
 
-/// The fourth version had no sheet, the third no maximum: a length of 0 less each. The second had no record:
-/// three more of them less. The first had no clips: two numbers less.
 #[test]
-fn a_journal_of_an_earlier_version_is_carried_on() {
-    for version in [1, 2, 3, 4] {
-        let cut = Cut::new();
-        let path = journal_of(&cut.image);
-        let whole = fs::read(&path).unwrap();
-        let end = whole.len() - 24;
-        let clip = 16 + if version == 1 { 12 } else { 14 } * 8;
-        let end_of_plan = end - [48, 48, 24, 16][version as usize - 1];
-        let mut early = [&whole[..clip], &whole[16 + 14 * 8..end_of_plan]].concat();
-        early[16] = version;
-        fs::write(&path, with_sums(early, &whole[end..end + 16])).unwrap();
-        assert!(on("list", &cut.image, &[]).err.contains("was cut (move film to 0x20000)"));
-        cut.is_finished();
+fn a_journal_of_an_earlier_version_is_told_and_left() {
+    let Some(cut) = Cut::early(&MOVE) else { return };
+    for rest in [&b""[..], b"\x05\0\0\0\0\0\0\0", &[7; 5000]] {
+        cut.put_journal(&[b"counter journal\n", rest].concat());
+        cut.is_left_alone("this journal is of a version of counter before this one");
+        let run = on("recover", &cut.image, &[]);
+        for words in
+            ["Nothing was touched", "with the version that wrote it", "your copy of the image"]
+        {
+            assert!(run.err.contains(words), "{}", run.err);
+        }
     }
 }
 
 #[test]
-fn a_journal_that_is_no_file_is_never_applied() {
-    let cut = Cut::new();
-    let path = journal_of(&cut.image);
+fn a_journal_of_another_image_is_never_applied() {
+    // Another header, another length.
+    for (at, len) in [(0x20, END), (0x434, END), (END as usize - 1, END - 1)] {
+        let Some(cut) = Cut::new() else { return };
+        let file = File::options().write(true).open(&cut.image).unwrap();
+        file.write_all_at(&[0x55], at as u64).unwrap();
+        file.set_len(len.into()).unwrap();
+        cut.is_left_alone("it belongs to another image");
+    }
+    // A copy, or the image brought back: the same name, another file.
+    let Some(cut) = Cut::new() else { return };
     let aside = cut.temp.at("aside");
-    fs::rename(&path, &aside).unwrap();
-    symlink(&aside, &path).unwrap();
-    cut.is_left_alone("it is no file");
-    let run = on("check", &cut.image, &[]);
-    assert_eq!(run.status, 78, "{}", run.err);
+    fs::copy(&cut.image, &aside).unwrap();
+    fs::rename(&aside, &cut.image).unwrap();
+    let before = cut.state();
+    for args in [&["recover"][..], &["mkdir", "x"]] {
+        let run = on(args[0], &cut.image, &args[1..]);
+        assert_eq!(run.status, 78, "{args:?}: {}", run.err);
+        assert!(run.err.contains("its journal was written for another file"), "{}", run.err);
+        assert!(run.err.contains("counter recover --anyway"), "{}", run.err);
+        assert!(cut.state() == before, "{args:?}");
+    }
+    done("recover", &cut.image, &["--anyway"]);
+    assert!(fs::read(&cut.image).unwrap() == cut.after);
+    // The copy from before the edit, brought back: it gets what the journal says.
+    let Some(cut) = Cut::new() else { return };
+    let aside = cut.temp.write("aside", &master());
+    let whole = cut.journal();
+    let mut early = Journal::read(&whole);
+    early.gates[1] = 0;
+    cut.put_journal(&early.bytes());
+    fs::rename(&aside, &cut.image).unwrap();
+    done("recover", &cut.image, &["--anyway"]);
+    assert!(fs::read(&cut.image).unwrap() == cut.after);
 }
+
+/// What else is in the image is neither compared nor written.
+#[test]
+fn recovery_writes_what_the_journal_says_and_nothing_else() {
+    for at in [0x500, 0xB300, 0xC001, 0x3_0000, u64::from(END) - 1] {
+        let Some(cut) = Cut::new() else { return };
+        cut.spoil(at);
+        let mut wanted = cut.after.clone();
+        wanted[at as usize] = fs::read(&cut.image).unwrap()[at as usize];
+        assert!(wanted != cut.after);
+        done("recover", &cut.image, &[]);
+        assert!(fs::read(&cut.image).unwrap() == wanted, "{at:#x}");
+    }
+}
+
+// Names -----------------------------------------------------------------------------------
 
 /// 78 says that there is a journal. What is in its place and can be none is told otherwise, and reading goes on.
 #[test]
@@ -391,9 +618,13 @@ fn what_is_no_journal_is_not_taken_for_one() {
     let image = temp.write("disc.iso", &master());
     let path = journal_of(&image);
     let before = State::of(&image);
-    let ways: [fn(&Path); 3] = [
+    let whole = Cut::early(&MOVE).map(|cut| cut.journal()).unwrap_or_default();
+    temp.write("elsewhere", &whole);
+    let ways: [fn(&Path); 5] = [
         |path| fs::create_dir(path).unwrap(),
         |path| symlink("nothing", path).unwrap(),
+        |path| symlink("elsewhere", path).unwrap(),
+        |path| symlink(path, path).unwrap(),
         |path| assert!(Command::new("mkfifo").arg(path).status().unwrap().success()),
     ];
     for (turn, way) in ways.into_iter().enumerate() {
@@ -414,249 +645,49 @@ fn what_is_no_journal_is_not_taken_for_one() {
             _ => fs::remove_file(&path).unwrap(),
         }
     }
+    assert!(fs::read(temp.at("elsewhere")).unwrap() == whole && !temp.at("nothing").exists());
     done("mkdir", &image, &["x"]);
 }
 
+/// The record lies where its name leads; a link that comes into its place meanwhile is replaced, and what it leads to
+/// is not written.
 #[test]
-fn a_mark_that_is_torn_means_that_nothing_but_free_space_was_written() {
-    let cut = Cut::new();
-    let path = journal_of(&cut.image);
-    let whole = fs::read(&path).unwrap();
-    // The table is new already, so the mark cannot have been torn by a cut.
-    fs::write(&path, &whole[..whole.len() - 1]).unwrap();
-    cut.is_left_alone("its table is not the old one");
-    // With the old table and the film where it was, the edit is carried on.
-    let file = File::options().write(true).open(&cut.image).unwrap();
-    file.write_all_at(&master(), 0).unwrap();
-    done("recover", &cut.image, &[]);
-    assert!(fs::read(&cut.image).unwrap() == cut.after);
-}
+fn no_link_leads_a_record_elsewhere() {
+    let Some(shim) = Shim::get() else { return };
+    let temp = Temp::in_memory();
+    let image = temp.write("disc.iso", &master());
+    let (record, link) = (temp.at("totals"), temp.at("link"));
+    symlink("totals", &link).unwrap();
+    let first = Table::of(&image).record_file(0);
+    fs::write(&record, &first).unwrap();
+    let args = ["move", "film", "0x20000", "--record", link.to_str().unwrap()];
+    done(args[0], &image, &args[1..]);
+    let after = Table::of(&image).record_file(1);
+    assert_eq!(fs::read_to_string(&record).unwrap(), after);
+    assert!(fs::symlink_metadata(&link).unwrap().is_symlink());
 
-#[test]
-fn a_journal_of_another_image_is_never_applied() {
-    // Another header, another length.
-    for (at, len) in [(0x20, END), (0x434, END), (END as usize - 1, END - 1)] {
-        let cut = Cut::new();
-        let file = File::options().write(true).open(&cut.image).unwrap();
-        file.write_all_at(&[0x55], at as u64).unwrap();
-        file.set_len(len.into()).unwrap();
-        cut.is_left_alone("it belongs to another image");
-    }
-    // A copy, or the image brought back: the same name, another file.
-    let cut = Cut::new();
-    let aside = cut.temp.at("aside");
-    fs::copy(&cut.image, &aside).unwrap();
-    fs::rename(&aside, &cut.image).unwrap();
-    let before = cut.state();
-    for args in [&["recover"][..], &["mkdir", "x"]] {
-        let run = on(args[0], &cut.image, &args[1..]);
-        assert_eq!(run.status, 78, "{args:?}: {}", run.err);
-        assert!(run.err.contains("its journal was written for another file"), "{}", run.err);
-        assert!(run.err.contains("counter recover --anyway"), "{}", run.err);
-        assert!(cut.state() == before, "{args:?}");
-    }
-    done("recover", &cut.image, &["--anyway"]);
-    assert!(fs::read(&cut.image).unwrap() == cut.after);
-}
-
-/// Another maximum writes four bytes, and recovery no other: the table's size is none of them.
-#[test]
-fn a_maximum_that_was_cut_is_finished() {
-    // Journal: create, write, sync. The call. Sync.
-    let cut = Cut::at(5, &["maximum", "0x12345678"]);
-    let run = on("check", &cut.image, &[]);
-    assert!(run.err.contains("was cut (maximum 305,419,896)"), "{}", run.err);
-    let whole = cut.state();
-    // Any mix of the old bytes and the new ones, and nothing else.
-    for word in [[0, 0, 0, 0], [0x12, 0, 0, 0x78], [0, 0x34, 0x56, 0]] {
-        let file = File::options().write(true).open(&cut.image).unwrap();
-        file.write_all_at(&word, 0x42C).unwrap();
-        fs::write(journal_of(&cut.image), &whole.1).unwrap();
-        assert_eq!(
-            done("recover", &cut.image, &[]),
-            "finished an edit that was cut: maximum 305,419,896\ndone: written and synced\n"
-        );
-        assert!(fs::read(&cut.image).unwrap() == cut.after);
-    }
-    fs::write(journal_of(&cut.image), &whole.1).unwrap();
-    cut.spoil(0x42D);
-    cut.is_left_alone("its FST maximum is neither the old nor the new one");
-    cut.spoil(0x42D);
-    cut.spoil(0x42B);
-    cut.is_left_alone("it belongs to another image");
-    cut.spoil(0x42B);
-    let told = json("recover", &cut.image, &[]);
-    assert_eq!(told.at("finished").text(), "maximum 305,419,896");
-    assert_eq!(told.at("record"), &Json::Null);
-    assert!(fs::read(&cut.image).unwrap() == cut.after);
-    // The other field of the header belongs to the image of another edit.
-    let cut = Cut::new();
-    cut.spoil(0x42D);
-    cut.is_left_alone("it belongs to another image");
-}
-
-#[test]
-fn an_image_that_was_changed_since_is_left_alone() {
-    let cases = [
-        (0x445, "its table is neither the old nor the new one"),
-        (0x42A, "its table is neither the old nor the new one"),
-        (0x8001, "the file's old place holds something else"),
-    ];
-    for (at, why) in cases {
-        let cut = Cut::new();
-        cut.spoil(at);
-        cut.is_left_alone(why);
-    }
-    // The copy is spoiled, and the old place has zeros already.
-    let cut = Cut::new();
-    cut.spoil(0x2_0100);
-    cut.is_left_alone("whole neither at its old nor at its new place");
-    for cut in [Cut::fill(), Cut::fill_elsewhere()] {
-        cut.spoil(0x445);
-        cut.is_left_alone("its table is neither the old nor the new one");
-    }
-}
-
-// Clips -----------------------------------------------------------------------------------
-
-#[test]
-fn a_cut_fill_is_told_and_finished_from_the_clip_that_was_kept() {
-    for (cut, place) in [(Cut::fill(), 0xC100), (Cut::fill_elsewhere(), 0x1_0100)] {
-        let run = on("check", &cut.image, &[]);
-        assert_eq!(run.status, 78, "{}", run.err);
-        assert!(
-            run.err.contains("clip.bin (") && run.err.contains("was cut (fill "),
-            "{}",
-            run.err
-        );
-        // Whatever its place holds, and whatever became of the clip that was given.
-        cut.spoil(place);
-        fs::remove_file(cut.temp.at("clip.bin")).unwrap();
-        let out = done("recover", &cut.image, &[]);
-        assert!(out.starts_with("finished an edit that was cut: fill "), "{out}");
-        assert!(fs::read(&cut.image).unwrap() == cut.after);
-        assert!(!journal_of(&cut.image).exists() && !clip_of(&cut.image).exists());
-    }
-}
-
-#[test]
-fn a_clip_that_is_spoiled_is_told_unless_the_file_has_it() {
-    for (cut, place) in [(Cut::fill(), 0xC100), (Cut::fill_elsewhere(), 0x1_0100)] {
-        let path = clip_of(&cut.image);
-        let whole = fs::read(&path).unwrap();
-        let mut other = whole.clone();
-        other[0x321] ^= 1;
-        cut.spoil(place);
-        for spoiled in [&other, &whole[1..], &[&whole[..], &[0]].concat(), &[]] {
-            fs::write(&path, spoiled).unwrap();
-            cut.is_left_alone("its clip is not whole any more");
+    fs::write(&image, master()).unwrap();
+    fs::write(&record, &first).unwrap();
+    let mut command = program();
+    command.arg(args[0]).arg(&image).args(&args[1..]);
+    shim.at(&mut command, image_write(1), Do::Kill);
+    assert_eq!(Run::from(command.output().unwrap()).status, 78);
+    let other = temp.write("other", first.as_bytes());
+    fs::remove_file(&record).unwrap();
+    symlink("other", &record).unwrap();
+    let run = on("recover", &image, &[]);
+    assert_eq!(fs::read_to_string(&other).unwrap(), first, "{}{}", run.out, run.err);
+    match run.status {
+        0 => assert_eq!(fs::read_to_string(&record).unwrap(), after),
+        78 => {
+            assert!(fs::symlink_metadata(&record).unwrap().is_symlink());
+            fs::remove_file(&record).unwrap();
+            fs::write(&record, &first).unwrap();
+            done("recover", &image, &[]);
+            assert_eq!(fs::read_to_string(&record).unwrap(), after);
         }
-        fs::remove_file(&path).unwrap();
-        cut.is_left_alone("its clip is not whole any more");
-        // Through a link it may be anything.
-        symlink(cut.temp.at("clip.bin"), &path).unwrap();
-        cut.is_left_alone("its clip is not whole any more");
-        let run = on("recover", &cut.image, &[]);
-        assert!(run.err.contains("go back to your copy"), "{}", run.err);
-        // The same bytes once more, as is told.
-        fs::remove_file(&path).unwrap();
-        fs::copy(cut.temp.at("clip.bin"), &path).unwrap();
-        cut.is_finished();
+        status => panic!("{status}: {}", run.err),
     }
-    // All of it is in its place, so that it is not wanted.
-    for cut in [Cut::fill(), Cut::fill_elsewhere()] {
-        fs::remove_file(clip_of(&cut.image)).unwrap();
-        cut.is_finished();
-    }
-}
-
-/// Until the mark is there, nothing but free space was written, and the edit may be given up.
-#[test]
-fn a_clip_that_is_lost_before_the_table_was_written_costs_nothing() {
-    let cut = Cut::fill_elsewhere();
-    let journal = journal_of(&cut.image);
-    let whole = fs::read(&journal).unwrap();
-    fs::write(&journal, &whole[..whole.len() - 24]).unwrap();
-    cut.is_left_alone("its table is not the old one");
-    let file = File::options().write(true).open(&cut.image).unwrap();
-    file.write_all_at(&master(), 0).unwrap();
-    let kept = fs::read(clip_of(&cut.image)).unwrap();
-    fs::remove_file(clip_of(&cut.image)).unwrap();
-    cut.is_left_alone("its clip is not whole any more");
-    let run = on("recover", &cut.image, &[]);
-    assert!(run.err.contains("nothing but free space was written"), "{}", run.err);
-    // With the clip in its place the rest is done without it.
-    file.write_all_at(&kept, 0x1_0000).unwrap();
-    cut.is_finished();
-}
-
-// Statuses --------------------------------------------------------------------------------
-
-/// The bytes that an edit must keep: all but the free space that it may use.
-fn without(image: &[u8], place: std::ops::Range<usize>) -> Vec<u8> {
-    let mut image = image.to_vec();
-    image[place].fill(0);
-    image
-}
-
-#[test]
-fn each_status_says_what_the_image_is_when_the_disk_is_full() {
-    let edits: [(&[&str], std::ops::Range<usize>); 12] = [
-        (&MOVE, 0x2_0000..0x2_3210),
-        (&["resize", "film", "0x5000"], 0x1_0000..0x1_5000),
-        (&["resize", "film", "0x1001"], 0..0),
-        (&["resize", "d/song", "0x2800"], 0..0),
-        (&["fill", "film", "12817"], 0x1_0000..0x1_3211),
-        (&["fill", "film", "12816"], 0..0),
-        (&["fill", "film", "1"], 0..0),
-        (&["fill", "d/song", "9000"], 0..0),
-        (&["fill", "next", "0"], 0..0),
-        (&["mkdir", "d/x/y"], 0..0),
-        (&["rewrite"], 0..0),
-        (&["maximum", "0x12345678"], 0..0),
-    ];
-    let mut rescued = 0;
-    for (args, place) in edits {
-        let temp = Temp::in_memory();
-        let image = temp.write("whole.iso", &master());
-        let args = with_clip(&temp, args);
-        let args: &[&str] = &args.iter().map(String::as_str).collect::<Vec<_>>();
-        done(args[0], &image, &args[1..]);
-        let after = fs::read(&image).unwrap();
-        let mut seen = Vec::new();
-        for n in 1.. {
-            let image = temp.write(&format!("disc{n}.iso"), &master());
-            let run = full_from(n, &image, args);
-            seen.push(run.status);
-            let now = fs::read(&image).unwrap();
-            let what = format!("{args:?}, full from {n}: {}{}", run.out, run.err);
-            match run.status {
-                // Done; perhaps from the journal, since a page could not be had.
-                0 => assert!(now == after, "{what}"),
-                74 => {
-                    let same = without(&now, place.clone()) == without(&master(), place.clone());
-                    assert!(same, "{what}");
-                    assert!(run.err.contains("nothing was written"), "{what}");
-                }
-                78 => {
-                    assert!(run.err.contains("the image holds a part of the edit"), "{what}");
-                    assert!(journal_of(&image).exists(), "{what}");
-                    done("recover", &image, &[]);
-                    assert!(fs::read(&image).unwrap() == after, "{what}");
-                }
-                _ => panic!("{what}"),
-            }
-            assert!(!journal_of(&image).exists() && !clip_of(&image).exists(), "{what}");
-            if run.status == 0 && !run.err.contains("finished from the journal") {
-                break;
-            }
-        }
-        println!("{args:?}: {seen:?}");
-        assert!(seen.contains(&74) && seen.contains(&78), "{args:?}: {seen:?}");
-        // A page could not be had, and the journal did it all the same.
-        rescued += seen.iter().filter(|status| **status == 0).count() - 1;
-    }
-    assert!(rescued > 0);
 }
 
 #[test]
@@ -676,50 +707,31 @@ fn a_journal_that_cannot_be_written_ends_the_edit_before_it_begins() {
 /// that may not be there, and nothing is written.
 #[test]
 fn a_disk_that_does_not_tell_of_a_journal_is_an_error() {
+    let Some(shim) = Shim::get() else { return };
     let temp = Temp::in_memory();
     let image = temp.write("disc.iso", &master());
-    let source = temp.write("fails.c", FAILS.as_bytes());
-    let fails = temp.at("fails.so");
-    let mut compiler = Command::new("cc");
-    compiler.args(["-shared", "-fPIC", "-o"]).args([&fails, &source]).arg("-ldl");
-    assert!(compiler.status().unwrap().success());
     let before = State::of(&image);
-    for args in [&["check"][..], &["recover"], &["mkdir", "x"], &["move", "film", "0x20000"]] {
-        let mut command = program();
-        command.env("LD_PRELOAD", &fails).arg(args[0]).arg(&image).args(&args[1..]);
-        let run = Run::from(command.output().unwrap());
-        assert_eq!(run.status, 74, "{args:?}: {}", run.err);
-        let name = journal_of(&image);
-        let start = format!("counter: {}: Input/output error", name.display());
-        assert!(run.err.starts_with(&start), "{args:?}: {}", run.err);
-        assert!(!run.err.contains("away"), "{args:?}: {}", run.err);
-        assert_eq!(State::of(&image), before);
-        assert!(!name.exists());
+    for within in ["counter", WRITER] {
+        for args in [&["check"][..], &["recover"], &["mkdir", "x"], &["move", "film", "0x20000"]] {
+            if within == WRITER && args[0] == "check" {
+                continue;
+            }
+            let mut command = program();
+            command.arg(args[0]).arg(&image).args(&args[1..]);
+            shim.at(&mut command, At { kinds: "x", files: "j", n: 1 }, Do::From(FAILS));
+            command.env("SHIM_IN", within);
+            let run = Run::from(command.output().unwrap());
+            let status = if within == WRITER { [73, 74] } else { [74, 74] };
+            assert!(status.contains(&run.status), "{within} {args:?}: {} {}", run.status, run.err);
+            let name = journal_of(&image);
+            assert!(run.err.contains(&*name.to_string_lossy()), "{args:?}: {}", run.err);
+            assert!(run.err.contains("Input/output error"), "{args:?}: {}", run.err);
+            assert!(!run.err.contains("away"), "{args:?}: {}", run.err);
+            assert_eq!(State::of(&image), before);
+            assert!(!name.exists());
+        }
     }
-    let mut command = program();
-    command.env("LD_PRELOAD", &fails).arg("check").arg(&image).arg("--as-is");
-    assert_eq!(Run::from(command.output().unwrap()).status, 0);
 }
-
-/// `statx` of a journal's name fails.
-const FAILS: &str = r#"
-#define _GNU_SOURCE
-#include <dlfcn.h>
-#include <errno.h>
-#include <string.h>
-struct statx;
-int statx(int folder, const char *path, int flags, unsigned mask, struct statx *told)
-{
-    int (*real)(int, const char *, int, unsigned, struct statx *);
-    size_t len = strlen(path), end = strlen(".counter-journal");
-    if (len >= end && strcmp(path + len - end, ".counter-journal") == 0) {
-        errno = EIO;
-        return -1;
-    }
-    real = (int (*)(int, const char *, int, unsigned, struct statx *))dlsym(RTLD_NEXT, "statx");
-    return real(folder, path, flags, mask, told);
-}
-"#;
 
 /// `ulimit -f` ends a program by a signal, unless it minds it.
 #[test]
@@ -736,14 +748,15 @@ fn a_limit_of_a_files_size_is_an_error_like_others() {
         let now = fs::read(&image).unwrap();
         match run.status {
             0 => assert!(run.out.ends_with("done: written and synced\n"), "{}", run.out),
-            73 => assert!(now == master(), "{kilobytes}: {}", run.out),
-            74 => {
-                let place = 0x2_0000..0x2_3210;
-                assert!(without(&now, place.clone()) == without(&master(), place), "{}", run.out);
+            73 | 74 => assert!(now == master(), "{kilobytes}: {}", run.out),
+            78 => {
+                let out = done("recover", &image, &[]);
+                assert!(out.contains("finished an edit that was cut"), "{kilobytes}: {out}");
             }
             _ => panic!("{kilobytes}: {} {}", run.status, run.out),
         }
         assert!(!journal_of(&image).exists(), "{kilobytes}");
     }
-    assert_eq!(seen, [73, 73, 74, 74, 0]);
+    assert!(seen[..2].iter().all(|status| [73, 74].contains(status)), "{seen:?}");
+    assert!(seen[2..4].iter().all(|&status| status == 78) && seen[4] == 0, "{seen:?}");
 }

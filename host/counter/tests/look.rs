@@ -1326,8 +1326,8 @@ fn a_manifest_goes_to_a_new_file_and_never_over_another() {
         assert_eq!(run.status, 73, "{}", run.err);
         assert!(fs::read(there).unwrap() == was);
     }
-    // What has the name of a journal or a clip would be taken for one, whoever makes it.
-    for name in [journal_of(&image), clip_of(&image), temp.at("x.counter-journal.new")] {
+    // What has the name of a journal would be taken for one, whoever makes it.
+    for name in [journal_of(&image), temp.at("x.counter-journal")] {
         let name = name.to_str().unwrap();
         let runs = [
             on("hash", &image, &["--out", name]),

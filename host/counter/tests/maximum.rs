@@ -243,7 +243,7 @@ fn above(temp: &Temp, image: &Path, args: &[&str], after: u64, more: &str) {
         // Nothing was written, nor is anything left.
         assert_eq!(State::of(image), before, "{rest:?}");
         assert!(fs::read(image).unwrap() == bytes, "{rest:?}");
-        assert!(!journal_of(image).exists() && !clip_of(image).exists(), "{rest:?}");
+        assert!(!journal_of(image).exists(), "{rest:?}");
         assert_eq!(fs::read_to_string(&kept).unwrap(), record, "{rest:?}");
         assert!(!new.exists(), "{rest:?}");
     }

@@ -8,6 +8,7 @@ use std::fs;
 use std::os::unix::ffi::OsStrExt;
 use std::path::{Path, PathBuf};
 use std::process::Command;
+use support::shim::*;
 use support::*;
 
 const END: u32 = 0x20_0000;
@@ -684,11 +685,11 @@ fn an_edit_that_was_cut_is_finished_with_the_image_s_bytes() {
     let after = temp.at("after.iso");
     fs::copy(&image, &after).unwrap();
     done("move", &after, &["表.bin", "0x180000"]);
-    let cut = program()
-        .args(["move", image.to_str().unwrap(), "表.bin", "0x180000"])
-        .env("COUNTER_FULL_FROM", "9")
-        .output();
-    let cut = Run::from(cut.unwrap());
+    let Some(shim) = Shim::get() else { return };
+    let mut command = program();
+    command.args(["move", image.to_str().unwrap(), "表.bin", "0x180000"]);
+    shim.at(&mut command, image_write(2), Do::From(FULL));
+    let cut = Run::from(command.output().unwrap());
     assert_eq!(cut.status, 78, "{}", cut.err);
     assert!(cut.err.contains("(move 表.bin to 0x180000)"), "{}", cut.err);
     let told = within(SJIS, "check", &image, &[]);

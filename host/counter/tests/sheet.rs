@@ -6,13 +6,13 @@ mod support;
 use counter_sys::{MOST_TABLE, MOST_WORDS, Memory, TEAMS};
 use std::fs::{self, File};
 use std::io::{Read, Write};
-use std::os::unix::fs::{FileExt, OpenOptionsExt};
-use std::os::unix::process::CommandExt;
+use std::os::unix::process::ExitStatusExt;
 use std::path::{Path, PathBuf};
 use std::process::{Child, Command, Stdio};
 use std::thread;
-use std::time::{Duration, Instant};
-use support::power::*;
+use std::time::Duration;
+use support::power::Random;
+use support::shim::*;
 use support::*;
 
 // Sheets, by themselves -------------------------------------------------------------------
@@ -1109,150 +1109,31 @@ fn finished(stage: &Stage, told: &str, record: Option<&Path>) -> usize {
     n
 }
 
-/// Where the disk was found, with a record's file or without.
-fn lay(stage: &Stage, record: Option<&Path>, found: &Found) {
-    fs::write(&stage.image, &found.image).unwrap();
-    let journal = journal_of(&stage.image);
-    let early = stage.temp.at("disc.iso.counter-journal.new");
-    let _ = fs::remove_file(&early);
-    match found.own_journal() {
-        Some(bytes) => fs::write(&journal, bytes).unwrap(),
-        None => _ = fs::remove_file(&journal),
-    }
-    if found.name == Name::Early {
-        fs::write(&early, &found.journal).unwrap();
-    }
-    let Some(record) = record else { return };
-    let early = stage.temp.at("counter-record.1");
-    let _ = fs::remove_file(&early);
-    fs::write(record, found.own_record().unwrap_or(stage.records[0].as_bytes())).unwrap();
-    if found.record_name == Name::Early {
-        fs::write(&early, &found.record).unwrap();
-    }
-}
-
-fn logged(stage: &Stage, args: &[&str]) -> (Run, Vec<Step>) {
+/// The second write to the image of line `n`: what the line does is begun, and not done.
+fn in_line(shim: Shim, stage: &Stage, n: usize) -> At {
+    stage.reset(0);
     let log = stage.temp.at("log");
     let _ = fs::remove_file(&log);
     let mut command = program();
-    command.arg(args[0]).arg(&stage.image).args(&args[1..]).env("COUNTER_LOG_WRITES", &log);
-    (command.output().unwrap().into(), read_log(&log))
-}
-
-/// Recovers what was found, goes on, and comes to the image that an uncut sheet leaves; says where it stood.
-fn goes_on(stage: &Stage, record: Option<&Path>, found: &Found, turn: usize) -> usize {
-    lay(stage, record, found);
-    let count = stage.count();
-    let name = record.map(|record| record.to_str().unwrap());
-    let rest: Vec<&str> = name.iter().flat_map(|name| ["--record", *name]).collect();
-    let is_cut = found.own_journal().is_some();
-    let kept = || record.map(|record| fs::read_to_string(record).unwrap());
-    let at = if !is_cut {
-        let out = done("recover", &stage.image, &[]);
-        assert!(out.contains("no edit was cut"), "{out}");
-        assert!(fs::read(&stage.image).unwrap() == found.image);
-        // Before the first line, or behind the last one.
-        if found.image == stage.images[0] { 0 } else { count }
-    } else if turn.is_multiple_of(2) {
-        finished(stage, &done("recover", &stage.image, &[]), record)
-    } else {
-        // The sheet itself finishes the line, and begins with no other that might have been run.
-        let run = stage.run(&rest);
-        assert_eq!(run.status, 64, "{}{}", run.out, run.err);
-        let n = finished(stage, &run.err, record);
-        let told =
-            format!("line {n} of {count} was cut and is finished now, and nothing more was done; ");
-        assert!(run.err.contains(&told), "{}", run.err);
-        n
+    command.arg("sheet").arg(&stage.image).args(args_of(&stage.sheet, &[]));
+    shim.log(&mut command, &log);
+    assert!(command.output().unwrap().status.success());
+    stage.reset(0);
+    let is_done = |step: &Step| {
+        step.what == b'a' && String::from_utf8_lossy(&step.bytes).contains("\"answer\":\"done\"")
     };
-    stage.is_at(at);
-    if let Some(kept) = kept() {
-        assert_eq!(kept, stage.records[at], "after line {at}");
+    let (mut done, mut before) = (0, 0);
+    for step in read_log(&log) {
+        done += usize::from(is_done(&step));
+        before += usize::from(done + 1 < n && (step.what, step.on) == (b'w', IMAGE));
     }
-    if at < count {
-        let from = (at + 1).to_string();
-        let run = stage.run(&[&["--from", &from], &rest[..]].concat());
-        assert_eq!(run.status, 0, "{}", run.err);
-        stage.is_at(count);
-        if let Some(kept) = kept() {
-            assert_eq!(kept, stage.records[count]);
-        }
-    }
-    at
+    image_write(before + 2)
 }
 
-/// Cuts a sheet at every step, and its recovery too.
-fn cut_everywhere(text: &str, with_record: bool, seed: u64) {
-    let stage = Stage::new(Temp::in_memory(), &master(), text);
-    let record = stage.temp.at("totals");
-    let record = with_record.then_some(record.as_path());
-    let name = record.map(|record| record.to_str().unwrap());
-    let rest: Vec<&str> = name.iter().flat_map(|name| ["--record", *name]).collect();
-    let start = Found::new(stage.images[0].clone());
-    lay(&stage, record, &start);
-    let args = [&["sheet"], &args_of(&stage.sheet, &rest)[..]].concat();
-    let (run, steps) = logged(&stage, &args);
-    assert_eq!(run.status, 0, "{}", run.err);
-    stage.is_at(stage.count());
-    // The log is true.
-    let mut disk = Disk::new(start.clone());
-    steps.iter().for_each(|step| disk.take(step));
-    assert_eq!(disk.unsure(), 0, "the last step is a sync");
-    assert!(disk.sure.image == stage.images[stage.count()] && disk.sure.own_journal().is_none());
-    // From the first line's journal to the last line's end there is one.
-    let mut random = Random(seed);
-    let all = cuts(&start, &steps, &mut random);
-    let mut seen = vec![0; stage.count() + 1];
-    let mut again = Vec::new();
-    for (turn, found) in all.iter().enumerate() {
-        let at = goes_on(&stage, record, found, turn);
-        let is_cut = found.own_journal().is_some();
-        assert!(is_cut || at == 0 || at == stage.count());
-        seen[at] += 1;
-        if is_cut && again.len() < 4 * (at + 1) && random.below(8) == 0 {
-            again.push(found);
-        }
-    }
-    assert!(seen.iter().all(|&count| count > 2), "{seen:?}");
-    let mut twice = 0;
-    for found in again {
-        lay(&stage, record, found);
-        let (run, steps) = logged(&stage, &["recover"]);
-        assert_eq!(run.status, 0, "{}", run.err);
-        let at = finished(&stage, &run.out, record);
-        // The record is as the cut left it.
-        let mut start = found.clone();
-        if found.own_journal().is_some() {
-            start.journal = found.own_journal().unwrap().to_vec();
-            (start.name, start.earlier) = (Name::Own, None);
-        }
-        for found in cuts(&start, &steps, &mut random) {
-            if found.own_journal().is_some() {
-                assert_eq!(goes_on(&stage, record, &found, 0), at, "recovery cut");
-                twice += 1;
-            }
-        }
-    }
-    println!("{} steps; cut behind each line: {seen:?}; recovery cut: {twice}", steps.len());
-}
-
-#[test]
-fn a_sheet_that_is_cut_says_where_it_stands_and_goes_on() {
-    cut_everywhere("add /d/new.bin\nmove /film 0x20000\nresize /far 0x1001\n", false, 1);
-    cut_everywhere("move next 0x2FFFE\nmkdir /d/e\nresize film 0x4000\n", true, 2);
-}
-
-/// A line that writes nothing has its journal too, since it counts.
-#[test]
-fn lines_that_write_nothing_are_cut_and_counted() {
-    cut_everywhere("mkdir /e\nresize /film 0x3210\nmkdir /f\n", true, 3);
-    cut_everywhere("mkdir /e\nmkdir /f\nresize /film 12816\n", true, 4);
-}
-
-/// Full at any step: the exit status says what became of the line that is told, and the sheet goes on; where
-/// a page of the image fails, at once.
+/// Full at any step: the exit status says what became of the line that is told, and the sheet goes on.
 #[test]
 fn a_disk_that_is_full_at_any_step_ends_the_sheet_between_two_lines() {
+    let Some(shim) = Shim::get() else { return };
     let text = "move /film 0x20000\nadd /d/new.bin\nresize /next 0x100\n";
     let stage = Stage::new(Temp::in_memory(), &master(), text);
     let record = stage.temp.at("totals");
@@ -1263,48 +1144,42 @@ fn a_disk_that_is_full_at_any_step_ends_the_sheet_between_two_lines() {
         fs::write(&record, &stage.records[0]).unwrap();
         let mut command = program();
         command.arg("sheet").arg(&stage.image).args(args_of(&stage.sheet, &["--record", name]));
-        let run: Run = command.env("COUNTER_FULL_FROM", step.to_string()).output().unwrap().into();
-        if run.status == 0 && !run.err.contains("failed or is full") {
+        shim.at(&mut command, At { kinds: "wscf", files: "", n: step }, Do::From(FULL));
+        let run: Run = command.output().unwrap().into();
+        if run.status == 0 {
             break;
         }
         seen.push(run.status);
-        assert!([0, 74, 78].contains(&run.status), "{step}: {} {}", run.status, run.err);
-        let journal = journal_of(&stage.image).exists();
-        assert_eq!(journal, run.status == 78, "{step}: {}", run.err);
-        if run
-            .err
-            .contains("free space from 0x20000 on, 12.5 KiB at most, may hold a part of a copy")
-        {
-            let file = File::options().write(true).open(&stage.image).unwrap();
-            let free = &stage.images[0][0x2_0000..0x2_3210];
-            file.write_all_at(free, 0x2_0000).unwrap();
-        }
+        assert!([74, 78].contains(&run.status), "{step}: {} {}", run.status, run.err);
+        // A gate that is closed, of which nobody knows whether the disk has it so, is none.
+        let open = fs::read(journal_of(&stage.image)).is_ok_and(|bytes| bytes.first() == Some(&1));
+        assert!(!open || run.status == 78, "{step}: {}", run.err);
         let mut at = (0..=3).find(|&n| fs::read(&stage.image).unwrap() == stage.images[n]);
-        if run.status == 78 {
+        if open {
             at = Some(finished(&stage, &done("recover", &stage.image, &[]), Some(&record)));
         }
         let at = at.unwrap_or_else(|| panic!("{step}: {}", run.err));
         stage.is_at(at);
         assert_eq!(fs::read_to_string(&record).unwrap(), stage.records[at], "{step}");
-        // It was told where to go on.
-        // The program began anew, on a disk that had room again.
-        assert!(run.status != 0 || at == 3, "{step}: {}", run.err);
-        if run.status != 0 && at < 3 {
+        // It was told where to go on, once it had begun.
+        let has_begun = run.err.contains(", line ");
+        assert!(has_begun || at == 0, "{step}: {}", run.err);
+        if at < 3 {
             let next = format!(" --from {} --record {name}`", at + 1);
-            assert!(run.err.contains(&next), "{step}: {}", run.err);
+            assert!(!has_begun || run.err.contains(&next), "{step}: {}", run.err);
             let run = stage.run(&["--from", &(at + 1).to_string(), "--record", name]);
             assert_eq!(run.status, 0, "{step}: {}", run.err);
         }
         stage.is_at(3);
         assert_eq!(fs::read_to_string(&record).unwrap(), stage.records[3], "{step}");
     }
-    for status in [0, 74, 78] {
+    for status in [74, 78] {
         assert!(seen.contains(&status), "{seen:?}");
     }
     println!("{seen:?}");
 }
 
-/// Killed anywhere: recovered, it stands behind a line, says behind which, and goes on.
+/// Killed anywhere: the line that is written is finished all the same, and the sheet goes on behind it.
 #[test]
 fn a_sheet_that_is_killed_goes_on() {
     let text: String = (0..12)
@@ -1328,11 +1203,10 @@ fn a_sheet_that_is_killed_goes_on() {
         thread::sleep(Duration::from_micros(random.below(60_000) as u64));
         send(&child, SIGKILL);
         child.wait().unwrap();
-        let at = match journal_of(&stage.image).exists() {
-            true => finished(&stage, &done("recover", &stage.image, &[]), Some(&record)),
-            false if fs::read(&stage.image).unwrap() == stage.images[0] => 0,
-            false => 12,
-        };
+        let out = done("recover", &stage.image, &["--wait"]);
+        assert!(out.contains("no edit was cut"), "{out}");
+        let now = fs::read(&stage.image).unwrap();
+        let at = stage.images.iter().position(|image| *image == now).unwrap();
         stage.is_at(at);
         assert_eq!(fs::read_to_string(&record).unwrap(), stage.records[at], "after line {at}");
         seen.push(at);
@@ -1405,14 +1279,15 @@ fn wait_for_output(child: &mut Child, lines: usize) {
 /// goes on.
 #[test]
 fn the_line_that_was_cut_is_told_by_every_command() {
+    let Some(shim) = Shim::get() else { return };
     let stage = Stage::new(Temp::in_memory(), &master(), THREE);
+    let at = in_line(shim, &stage, 2);
     let cut = || {
         stage.reset(0);
-        // Line 1. Journal: create, write, sync. The call. Sync. Line 2. Journal: the same. Image: write,
-        // sync. Journal: write, sync. The call. Sync.
         let mut command = program();
         command.arg("sheet").arg(&stage.image).args(args_of(&stage.sheet, &["--json"]));
-        let run: Run = command.env("COUNTER_FULL_FROM", "14").output().unwrap().into();
+        shim.at(&mut command, at, Do::From(FULL));
+        let run: Run = command.output().unwrap().into();
         assert_eq!(run.status, 78, "{}", run.err);
         run
     };
@@ -1485,12 +1360,13 @@ fn the_line_that_was_cut_is_told_by_every_command() {
     stage.is_at(3);
 }
 
-/// Cut in its second line of three, with nothing told.
-fn cut_in_two(stage: &Stage, rest: &[&str]) {
+/// Cut at that step of its second line of three.
+fn cut_in_two(shim: Shim, at: At, stage: &Stage) {
     stage.reset(0);
     let mut command = program();
-    command.arg("sheet").arg(&stage.image).args(args_of(&stage.sheet, rest));
-    let run: Run = command.env("COUNTER_FULL_FROM", "14").output().unwrap().into();
+    command.arg("sheet").arg(&stage.image).args(args_of(&stage.sheet, &[]));
+    shim.at(&mut command, at, Do::From(FULL));
+    let run: Run = command.output().unwrap().into();
     assert_eq!(run.status, 78, "{}", run.err);
 }
 
@@ -1499,7 +1375,9 @@ const THREE: &str = "add /d/new.bin\nmove /film 0x20000\nresize /far 0x1001\n";
 /// Under any name it is the same sheet, and another one under its name is not.
 #[test]
 fn a_sheet_is_known_by_its_bytes() {
+    let Some(shim) = Shim::get() else { return };
     let stage = Stage::new(Temp::in_memory(), &master(), THREE);
+    let at = in_line(shim, &stage, 2);
     let bytes = fs::read(&stage.sheet).unwrap();
     let same = |run: Run, why: &str| {
         assert_eq!((run.status, run.out.lines().count()), (64, 0), "{}", run.err);
@@ -1511,19 +1389,19 @@ fn a_sheet_is_known_by_its_bytes() {
     let (copy, link) = (stage.temp.write("copy", &bytes), stage.temp.at("link"));
     std::os::unix::fs::symlink(&stage.sheet, &link).unwrap();
     for sheet in [&copy, &link] {
-        cut_in_two(&stage, &[]);
+        cut_in_two(shim, at, &stage);
         same(on("sheet", &stage.image, &args_of(sheet, &[])), was_cut);
     }
-    cut_in_two(&stage, &[]);
+    cut_in_two(shim, at, &stage);
     let mut command = program();
     command.arg("sheet").arg(&stage.image).arg("/dev/stdin").stdin(Stdio::piped());
     let mut child = command.stdout(Stdio::piped()).stderr(Stdio::piped()).spawn().unwrap();
     child.stdin.take().unwrap().write_all(&bytes).unwrap();
     same(child.wait_with_output().unwrap().into(), was_cut);
     // With the line that was finished just now.
-    cut_in_two(&stage, &[]);
+    cut_in_two(shim, at, &stage);
     same(stage.run(&["--from", "2"]), "line 2 is done; --from 3 goes on; nothing more was done");
-    cut_in_two(&stage, &[]);
+    cut_in_two(shim, at, &stage);
     let run = stage.run(&["--json"]);
     let told = Json::read(&run.out);
     let number = |name: &str| told.at(name).number();
@@ -1531,7 +1409,7 @@ fn a_sheet_is_known_by_its_bytes() {
     assert!(told.at("finished").text().contains("line 2 of 3: move /film to 0x20000"));
 
     // Another sheet under its name: it is run as any other, and nobody is told to go on with it.
-    cut_in_two(&stage, &[]);
+    cut_in_two(shim, at, &stage);
     fs::write(&stage.sheet, sheet_of(&[line_of("/y")])).unwrap();
     let other = format!("line 2 of 3 of another sheet that was at {}: ", stage.sheet.display());
     let run = on("list", &stage.image, &[]);
@@ -1545,7 +1423,7 @@ fn a_sheet_is_known_by_its_bytes() {
     ] {
         for is_json in [false, true] {
             fs::write(&stage.sheet, &bytes).unwrap();
-            cut_in_two(&stage, &[]);
+            cut_in_two(shim, at, &stage);
             match is_gone {
                 true => fs::remove_file(&stage.sheet).unwrap(),
                 false => fs::write(&stage.sheet, sheet_of(&[])).unwrap(),
@@ -1569,83 +1447,12 @@ fn a_sheet_is_known_by_its_bytes() {
     }
 }
 
-/// What the program does that begins anew in the midst of line 2: by its own name it knows the sheet, and goes on
-/// with no other.
-#[test]
-fn after_a_failing_page_the_same_sheet_goes_on() {
-    let stage = Stage::new(Temp::in_memory(), &master(), THREE);
-    let sum = Command::new("sha256sum").arg(&stage.sheet).output().unwrap().stdout;
-    let name = format!("counter:1:{}", str::from_utf8(&sum[..64]).unwrap());
-    let bytes = fs::read(&stage.sheet).unwrap();
-    let anew = |sheet: &Path| -> Run {
-        let mut command = program();
-        command.arg0(&name).args(["sheet", "--from", "3", "--json", "--"]);
-        command.args([&stage.image, sheet]).output().unwrap().into()
-    };
-    cut_in_two(&stage, &[]);
-    let run = anew(&stage.sheet);
-    assert_eq!(run.status, 0, "{}", run.err);
-    assert!(!run.err.contains("go on with"), "{}", run.err);
-    let told = Json::read(&run.out);
-    assert_eq!(["from", "ran"].map(|name| told.at(name).number()), [1, 3]);
-    assert!(told.at("written").flag());
-    stage.is_at(3);
-    for (at, why) in [
-        (Some(sheet_of(&[])), "another sheet is there now; line 2 is done, and no other was run"),
-        (Some(vec![]), "it has 0 bytes"),
-        (None, "no such file; line 2 is done, and no other was run"),
-    ] {
-        fs::write(&stage.sheet, &bytes).unwrap();
-        cut_in_two(&stage, &[]);
-        match &at {
-            Some(bytes) => fs::write(&stage.sheet, bytes).unwrap(),
-            None => fs::remove_file(&stage.sheet).unwrap(),
-        }
-        let run = anew(&stage.sheet);
-        assert_eq!(run.status, 66, "{}", run.err);
-        assert!(run.err.contains(why), "{}", run.err);
-        assert_eq!(Json::read(&run.out).at("line").number(), 2);
-        stage.is_at(2);
-    }
-    fs::write(&stage.sheet, &bytes).unwrap();
-    cut_in_two(&stage, &[]);
-    let run = anew(Path::new("/dev/stdin"));
-    assert_eq!(run.status, 66, "{}", run.err);
-    assert!(
-        run.err.contains("/dev/stdin: no file, to be read again; line 2 is done"),
-        "{}",
-        run.err
-    );
-    stage.is_at(2);
-    // Wherever the disk is full, or a page fails on one that has room again, the answer has the line.
-    let mut seen = Vec::new();
-    for step in 1.. {
-        stage.reset(0);
-        let _ = fs::remove_file(journal_of(&stage.image));
-        let mut command = program();
-        command.arg("sheet").arg(&stage.image).args(args_of(&stage.sheet, &["--json"]));
-        let run: Run = command.env("COUNTER_FULL_FROM", step.to_string()).output().unwrap().into();
-        let is_anew = run.err.contains("failed or is full in the midst");
-        let told = Json::read(&run.out);
-        match run.status {
-            0 if !is_anew => break,
-            0 if told.at("edit").text() == "recover" => {
-                assert_eq!(told.at("sheet").at("line").number(), 3);
-            }
-            0 => assert_eq!(["from", "ran"].map(|name| told.at(name).number()), [1, 3]),
-            _ => assert!((1..=3).contains(&told.at("line").number()), "{}", run.out),
-        }
-        seen.push((run.status, is_anew));
-        if run.status == 78 {
-            done("recover", &stage.image, &[]);
-        }
-    }
-    assert!(seen.contains(&(0, true)) && seen.contains(&(78, false)), "{seen:?}");
-}
-
 /// The command that is told goes on as it stands, with the record and the team, whatever the files are called.
 #[test]
 fn the_command_that_is_told_can_be_pasted() {
+    let Some(shim) = Shim::get() else { return };
+    let stage = Stage::new(Temp::in_memory(), &master(), THREE);
+    let at = in_line(shim, &stage, 2);
     let temp = Temp::in_memory();
     temp.write("my disc.iso", &master());
     temp.write(
@@ -1653,11 +1460,19 @@ fn the_command_that_is_told_can_be_pasted() {
         &fs::read(compiled(&temp, "mkdir /e\nmkdir /d/no/x\nmkdir /f\n")).unwrap(),
     );
     temp.write("teams", b"0 none 0 Red and blue\n1 none 0 Green\n");
-    let sh = |command: &str| -> Run {
+    let shell = |command: &str| {
         let all = format!("counter() {{ {} \"$@\"; }}; {command}", env!("CARGO_BIN_EXE_counter"));
         let mut sh = Command::new("sh");
         sh.args(["-c", &all]).current_dir(temp.at("")).env("LC_ALL", "C.UTF-8");
-        sh.stdin(Stdio::null()).output().unwrap().into()
+        sh.stdin(Stdio::null());
+        sh
+    };
+    let sh = |command: &str| Run::from(shell(command).output().unwrap());
+    // On a disk that is full in the midst of line 2.
+    let cut = |command: &str| {
+        let mut command = shell(command);
+        shim.at(&mut command, at, Do::From(FULL));
+        Run::from(command.output().unwrap())
     };
     let told = |err: &str| {
         let rest = err.split("go on with ").nth(1).unwrap_or_else(|| panic!("{err}"));
@@ -1676,8 +1491,7 @@ fn the_command_that_is_told_can_be_pasted() {
     temp.write("my disc.iso", &master());
     temp.write("-day's", &fs::read(compiled(&temp, THREE)).unwrap());
     assert_eq!(sh("counter record 'my disc.iso' --record '-r 1' --teams teams --force").status, 0);
-    let run = sh("COUNTER_FULL_FROM=20; export COUNTER_FULL_FROM; \
-         counter sheet --record '-r 1' --team Green -- 'my disc.iso' \"-day's\"");
+    let run = cut("counter sheet --record '-r 1' --team Green -- 'my disc.iso' \"-day's\"");
     assert_eq!(run.status, 78, "{}", run.err);
     let next = told(&sh("counter recover 'my disc.iso'").out);
     let record = format!(" --record '{}' --team 1", temp.at("-r 1").display());
@@ -1688,8 +1502,7 @@ fn the_command_that_is_told_can_be_pasted() {
     assert!(green.contains("Green") && green.contains("edits 3"), "{green}");
     // Of a pipe no name is told.
     temp.write("disc.iso", &master());
-    let run =
-        sh("cat './-day'\\''s' | (export COUNTER_FULL_FROM=14; counter sheet disc.iso /dev/stdin)");
+    let run = cut("cat './-day'\\''s' | counter sheet disc.iso /dev/stdin");
     assert_eq!(run.status, 78, "{}", run.err);
     let next = "go on with the same sheet: `counter sheet disc.iso FILE --from 3`";
     assert!(run.err.contains(next), "{}", run.err);
@@ -1702,31 +1515,30 @@ fn line_of(path: &str) -> Line {
 }
 
 /// On a terminal it is told at which line a long sheet is, which has its record alone from line to line. Ctrl-C
-/// gives the line up, and those before it stay.
+/// lets the line be finished, and ends the sheet behind it.
 #[test]
 fn a_long_sheet_shows_its_progress_on_a_terminal() {
+    let Some(shim) = Shim::get() else { return };
     let temp = Temp::new();
     let image = temp.at("disc.iso");
     sparse(&image, &usual(0x10_0000, 0x40_0000), 0xA0_0000);
     let sheet = compiled(&temp, "mkdir /x\nmove /movie/intro.thp 0x600000\nmkdir /y\n");
-    let single = temp.at("single.iso");
-    fs::copy(&image, &single).unwrap();
-    done("mkdir", &single, &["/x"]);
+    let singles = [temp.at("one.iso"), temp.at("two.iso")];
+    fs::copy(&image, &singles[0]).unwrap();
+    done("mkdir", &singles[0], &["/x"]);
+    fs::copy(&singles[0], &singles[1]).unwrap();
+    done("move", &singles[1], &["/movie/intro.thp", "0x600000"]);
     let Some((mut shows, writes)) = terminal() else {
         not_tried("progress of a sheet: no terminal to be had");
         return;
     };
-    // The log goes to a pipe, and the program no further than that is read.
-    let pipe = temp.at("log");
-    assert!(Command::new("mkfifo").arg(&pipe).status().unwrap().success());
-    let mut log = File::options().read(true).custom_flags(O_NONBLOCK).open(&pipe).unwrap();
     let mut command = program();
     let record = temp.at("totals");
     let rest = ["--record", record.to_str().unwrap()];
     command.arg("sheet").arg(&image).args(args_of(&sheet, &rest)).stdout(Stdio::null());
-    command.env("COUNTER_LOG_WRITES", &pipe).stderr(writes);
-    let mut child = command.spawn().unwrap();
-    drop(command);
+    command.stderr(writes);
+    // Table and word of line 1, and then the copy.
+    let (mut child, step) = shim.stopped(&temp, command, image_write(4));
     let (tell, told) = std::sync::mpsc::channel();
     thread::spawn(move || {
         let mut part = [0; 1024];
@@ -1741,33 +1553,19 @@ fn a_long_sheet_shows_its_progress_on_a_terminal() {
         }
         all.clone()
     };
-    let drain = |log: &mut File| {
-        let mut part = vec![0; 1 << 16];
-        while log.read(&mut part).is_ok_and(|count| count > 0) {}
-    };
-    // Line 1 is soon done, and the copy of line 2 begun.
-    let start = Instant::now();
-    while !Table::of(&image).entries.iter().any(|entry| entry.path == "/x") {
-        drain(&mut log);
-        assert!(start.elapsed() < Duration::from_secs(60));
-    }
     let shown = wait_for("line 2 of 3: writing: ");
     assert!(shown.contains("\r\x1b[Kline 2 of 3: writing: "), "{shown:?}");
-    let after_one = Table::of(&single).record_file(1);
-    assert_eq!(fs::read_to_string(&record).unwrap(), after_one);
-    assert_eq!(on("mkdir", &single, &[&["/y"], &rest[..]].concat()).status, 75);
+    let after = |at: usize| Table::of(&singles[at]).record_file(at as u64 + 1);
+    assert_eq!(fs::read_to_string(&record).unwrap(), after(0));
+    assert_eq!(on("mkdir", &singles[0], &[&["/y"], &rest[..]].concat()).status, 75);
     send(&child, SIGINT);
-    wait_for("Ctrl-C (SIGINT): the edit is given up");
-    while child.try_wait().unwrap().is_none() {
-        drain(&mut log);
-        thread::sleep(Duration::from_millis(1));
-    }
-    let shown = wait_for("--from 2 --record ");
-    assert!(shown.contains("line 2 of 3: ") && shown.contains("line 1 ran and stays"), "{shown}");
-    assert_eq!(Run::from(child.wait_with_output().unwrap()).signal, Some(SIGINT));
-    assert!(fs::read(&image).unwrap() == fs::read(&single).unwrap());
-    assert_eq!(fs::read_to_string(&record).unwrap(), after_one);
+    wait_for("Ctrl-C (SIGINT): the edit is finished first");
+    drop(step);
+    let shown = wait_for("--from 3 --record ");
+    let behind = ["line 3 of 3: ", "came before it", "lines 1 to 2 ran and stay"];
+    assert!(behind.iter().all(|words| shown.contains(words)), "{shown}");
+    assert_eq!(child.wait().unwrap().signal(), Some(SIGINT));
+    assert!(fs::read(&image).unwrap() == fs::read(&singles[1]).unwrap());
+    assert_eq!(fs::read_to_string(&record).unwrap(), after(1));
     assert!(!journal_of(&image).exists());
 }
-
-const O_NONBLOCK: i32 = 0x800;

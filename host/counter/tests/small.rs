@@ -413,10 +413,8 @@ fn what_is_there_stays() {
         assert!(Command::new("mkfifo").arg(&place).status().unwrap().success());
         taken(name);
         // What would be taken for one of the new master's.
-        for end in ["counter-journal", "counter-journal.new", "counter-clip"] {
-            fs::write(into.join(format!("{name}.{end}")), b"").unwrap();
-            taken(&format!("{name}.{end}"));
-        }
+        fs::write(into.join(format!("{name}.counter-journal")), b"").unwrap();
+        taken(&format!("{name}.counter-journal"));
     }
     // Other names are no matter.
     made(3, &into);
@@ -473,7 +471,7 @@ fn where_a_set_is_made() {
             64,
             "counter: --into DIR is missing; usage: counter tables ENTRIES --into DIR [--json]\n",
         ),
-        ("small.counter-journal", 64, "a name that a journal has, or a clip that is kept"),
+        ("small.counter-journal", 64, "a name that a journal has"),
     ] {
         let run = ask(into, &[]);
         assert_eq!((run.status, run.out.as_str()), (status, ""), "{into}: {}", run.err);

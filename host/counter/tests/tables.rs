@@ -678,7 +678,7 @@ fn images_that_do_not_open_end_it_with_their_number() {
 fn an_edit_that_was_cut_is_told() {
     let temp = Temp::new();
     let (one, two) = (written(&temp, "one.iso"), written(&temp, "two.iso"));
-    fs::write(journal_of(&two), b"torn").unwrap();
+    fs::write(journal_of(&two), OPEN_JOURNAL).unwrap();
     assert_eq!(tables(&one, &two, &[]).status, 78);
     let run = tables(&one, &two, &["--as-is"]);
     assert_eq!(run.status, 78, "{}", run.out);

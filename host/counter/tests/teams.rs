@@ -10,6 +10,7 @@ use std::os::unix::fs::{MetadataExt, PermissionsExt, chown};
 use std::os::unix::process::CommandExt;
 use std::path::{Path, PathBuf};
 use std::process::Command;
+use support::shim::*;
 use support::*;
 
 /// The small master: its table ends at 1114, /a has 256 bytes at 1280, the disc ends at 8192. 1370 bytes are
@@ -803,15 +804,14 @@ fn the_group_of_the_file_is_kept() {
     let (image, file) =
         (small(&temp), record(&temp, "team 0 limit none share 0 taken 0 edits 0\n"));
     // Where the program is built nobody else may be let in.
-    let own = temp.at("counter");
-    let copied = Command::new("cp").arg(env!("CARGO_BIN_EXE_counter")).arg(&own).status().unwrap();
-    assert!(copied.success());
-    for (path, mode) in [(&temp.at(""), 0o777), (&image, 0o666), (&file, 0o664), (&own, 0o755)] {
+    let own = copied(&temp);
+    for (path, mode) in [(&temp.at(""), 0o777), (&image, 0o666), (&file, 0o664)] {
         fs::set_permissions(path, fs::Permissions::from_mode(mode)).unwrap();
     }
     chown(&file, Some(1001), Some(2000)).unwrap();
     let mut command = Command::new(&own);
     command.arg("rewrite").arg(&image).args(["--team", "0", "--record"]).arg(&file);
+    command.env_remove("COUNTER_WRITE");
     // SAFETY: between fork and exec only these calls of the system are made.
     unsafe {
         command.pre_exec(|| {
@@ -836,7 +836,7 @@ unsafe extern "C" {
 const TEAMS: &str = "team 0 limit none share 0 taken 4 edits 4 name art\nteam 9 limit 700 share 9 taken 0 edits 1\n";
 
 /// An edit of team 9 that is cut when its table was written.
-fn cut(temp: &Temp, args: &[&str], step: u32) -> (PathBuf, PathBuf) {
+fn cut(shim: Shim, temp: &Temp, args: &[&str]) -> (PathBuf, PathBuf) {
     let (image, file) = (small(temp), record(temp, TEAMS));
     let mut command = program();
     command
@@ -846,7 +846,9 @@ fn cut(temp: &Temp, args: &[&str], step: u32) -> (PathBuf, PathBuf) {
         .arg("--record")
         .arg(&file)
         .args(["--team", "9"]);
-    let run: Run = command.env("COUNTER_FULL_FROM", step.to_string()).output().unwrap().into();
+    // Behind the copy.
+    shim.at(&mut command, image_write(2), Do::From(FULL));
+    let run: Run = command.output().unwrap().into();
     assert_eq!(run.status, 78, "{}", run.err);
     assert!(journal_of(&image).exists());
     assert_eq!(read(&file), first(TEAMS));
@@ -855,10 +857,11 @@ fn cut(temp: &Temp, args: &[&str], step: u32) -> (PathBuf, PathBuf) {
 
 #[test]
 fn a_cut_edit_is_counted_for_its_team_when_it_is_finished() {
+    let Some(shim) = Shim::get() else { return };
     let temp = Temp::in_memory();
     let moved = ["move", "a", "0x1000"];
     let text = text(1370, 3840, &TEAMS.replace("edits 1", "edits 2"));
-    let (image, file) = cut(&temp, &moved, 9);
+    let (image, file) = cut(shim, &temp, &moved);
     let place = fs::canonicalize(&file).unwrap();
     let out = done("recover", &image, &[]);
     let wanted = format!(
@@ -869,7 +872,7 @@ fn a_cut_edit_is_counted_for_its_team_when_it_is_finished() {
         place.display()
     );
     assert_eq!((out, read(&file)), (wanted, text.clone()));
-    let (image, _) = cut(&temp, &moved, 9);
+    let (image, _) = cut(shim, &temp, &moved);
     // What an option is for is told of commands that have it.
     for (args, told) in
         [(&["record"][..], false), (&["mkdir", "e", "--dry-run"], false), (&["info"], true)]
@@ -883,22 +886,22 @@ fn a_cut_edit_is_counted_for_its_team_when_it_is_finished() {
     assert_eq!(told.at("record").at("edits").number(), 6);
 
     // The next edit finishes it first, whatever becomes of that one.
-    let (image, file) = cut(&temp, &moved, 9);
+    let (image, file) = cut(shim, &temp, &moved);
     let run = by("art", &image, &file, &["mkdir", "d"]);
     assert_eq!(run.status, 0, "{}", run.err);
     assert!(run.err.contains("finished an edit that was cut: move a to 0x1000; record written"));
     let both = text.replace("1370", "1384").replace("taken 4 edits 4", "taken 18 edits 5");
     assert_eq!(read(&file), both);
-    let (image, file) = cut(&temp, &moved, 9);
+    let (image, file) = cut(shim, &temp, &moved);
     let run = on("rewrite", &image, &["--record", file.to_str().unwrap()]);
     assert_eq!((run.status, read(&file)), (64, text.clone()), "{}", run.err);
     // A record that is another by then keeps the journal.
-    let (image, file) = cut(&temp, &moved, 9);
+    let (image, file) = cut(shim, &temp, &moved);
     let other = first(&TEAMS.replace("taken 4", "taken 5"));
     fs::write(&file, &other).unwrap();
     let run = on("recover", &image, &[]);
     assert_eq!(run.status, 78, "{}", run.err);
-    assert!(run.err.contains("the record cannot be written: another program changed it meanwhile"));
+    assert!(run.err.contains("totals: another program changed this record since"), "{}", run.err);
     assert_eq!(read(&file), other);
     let run = on("recover", &image, &["--without-record"]);
     assert!(run.status == 0 && run.out.contains("\nteam 9: "), "{}{}", run.out, run.err);
@@ -908,6 +911,7 @@ fn a_cut_edit_is_counted_for_its_team_when_it_is_finished() {
 /// Whatever becomes of the edit, the record is the image's, and its team has the edit if it was done.
 #[test]
 fn the_record_goes_with_the_edit_when_the_disk_is_full() {
+    let Some(shim) = Shim::get() else { return };
     let temp = Temp::in_memory();
     let first = first(TEAMS);
     for (args, taken) in
@@ -918,14 +922,17 @@ fn the_record_goes_with_the_edit_when_the_disk_is_full() {
             let (image, file) = (small(&temp), temp.write("totals", first.as_bytes()));
             let mut command = program();
             command.arg(args[0]).arg(&image).args(&args[1..]).arg("--record").arg(&file);
-            command.args(["--team", "9"]).env("COUNTER_FULL_FROM", n.to_string());
+            command.args(["--team", "9"]);
+            shim.at(&mut command, At { kinds: "wscf", files: "", n }, Do::From(FULL));
             let run: Run = command.output().unwrap().into();
             seen.push(run.status);
             let what = format!("{args:?}, full from {n}: {}{}", run.out, run.err);
             assert!([0, 74, 78].contains(&run.status), "{what}");
             if run.status == 78 {
-                assert_eq!(read(&file), first, "{what}");
-                assert!(done("recover", &image, &[]).contains("\nteam 9: taken "), "{what}");
+                let open =
+                    fs::read(journal_of(&image)).is_ok_and(|bytes| bytes.first() == Some(&1));
+                let out = done("recover", &image, &[]);
+                assert_eq!(out.contains("\nteam 9: taken "), open, "{what}: {out}");
             }
             let table = Table::of(&image);
             let team = format!("taken {taken} edits 2");
@@ -935,7 +942,7 @@ fn the_record_goes_with_the_edit_when_the_disk_is_full() {
             };
             let wanted = text(table.used(), table.largest(), &lines);
             assert_eq!(read(&file), wanted, "{what}");
-            if run.status == 0 && !run.err.contains("finished from the journal") {
+            if run.status == 0 {
                 break;
             }
         }

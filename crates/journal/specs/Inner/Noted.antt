@@ -6,7 +6,7 @@ use Rattle.endian.specs.Bytes.{put, be32_bytes}
 use Rattle.journal.specs.declared.draft.Draft.{Draft}
 use Rattle.journal.specs.declared.noting.Places.{Places}
 use Rattle.journal.specs.Disk.{Disk}
-use Rattle.journal.specs.Journal.{head_len, most_record}
+use Rattle.journal.specs.Journal.{head_len, most_record, sum_from}
 
 -- ---- numbers of 8 bytes
 
@@ -67,9 +67,13 @@ numbers_of d =
 abbrev pub head_of : Draft → List ℕ
 head_of d = copied_gate d ∷ (bytes_of (numbers_of d) ++ d.header.now)
 
--- a journal with the draft behind its first gate
+-- what stands behind both gates, and is summed
+abbrev pub summed : Draft → List ℕ → List ℕ
+summed d clip = bytes_of (numbers_of d) ++ d.header.now ++ parts_of d ++ clip
+
+-- a journal with the draft behind its first gate, and its sum behind it
 abbrev pub noted : Draft → List ℕ → List ℕ → List ℕ
-noted d clip journal = put journal 1 (head_of d ++ parts_of d ++ clip)
+noted d clip journal = put journal 1 (head_of d ++ parts_of d ++ clip ++ number_bytes (sum_from 0 (summed d clip)))
 
 -- ---- writes behind the first gate
 

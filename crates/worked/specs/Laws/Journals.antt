@@ -1,9 +1,9 @@
 -- Journals written out byte by byte from the layout (docs/DISK.md), and what recovery makes of them, by computing. Assumes nothing.
-use Rattle.std.specs.Prelude.{ℕ, zero, suc, ◌≡◌, refl, List, [], ◌∷◌, ◌++◌, length, replicate, slice_index, codes}
+use Rattle.std.specs.Prelude.{ℕ, zero, suc, ◌≡◌, refl, List, [], ◌∷◌, ◌++◌, length, take, replicate, slice_index, codes}
 use Rattle.std.proofs.Common.{arith}
 use Rattle.endian.specs.Bytes.{be32, put, are_same_bytes}
 use Rattle.journal.specs.Disk.{Disk, TearsImage, TearsJournal, with_image, with_journal}
-use Rattle.journal.specs.Journal.{after, number_at, copying_in, step_in, steps_fit, writes_of, record_count, Kept, kept_of, recovered, found_in}
+use Rattle.journal.specs.Journal.{after, number_at, copying_in, step_in, steps_fit, writes_of, record_count, sum_from, Kept, kept_of, recovered, found_in}
 use Rattle.journal.specs.declared.recovery.Found.TheVariants.{Nothing, Finished, Another}
 use Rattle.journal.proofs.Torn.{put-torn, tears_image-wider}
 use Rattle.worked.specs.Image.{master}
@@ -68,19 +68,20 @@ text_shorter = codes "counter record 1\nused 1121 largest 4089 edits 2\n"
 
 -- ---- the move's, whose copy goes first, and the resize's, which copies nothing; by their gates
 
--- an image of 0x2000 bytes in file 77; a record of 48 bytes, and no note; the copy; no clip; the table, which stands at 1314; no lost tail and
--- no word; zeros where `a` was
+-- an image of 0x2000 bytes in file 77; a record of 48 bytes, and no note; the copy; no clip, which would end at 1340; the table, which stands at
+-- 1314; no lost tail and no word; zeros where `a` was; the sum of all but the gates
 unfoldable pub move_journal : ℕ → ℕ → List ℕ
 move_journal gate copied =
     gate ∷ copied ∷
     (eight 0x20 0 ++ eight 0 77 ++ eight 0 49 ++ eight 0 0
     ++ (eight 5 0 ++ eight 0x10 0 ++ eight 1 0)
-    ++ none
+    ++ (eight 0 0 ++ eight 0 0 ++ eight 0x05 0x3C)
     ++ (eight 4 0x40 ++ eight 0 0x1A ++ eight 0x05 0x22)
     ++ none
     ++ none
     ++ (eight 5 0 ++ eight 1 0 ++ eight 0 0)
-    ++ header ++ text_moved ++ table 1 0)
+    ++ header ++ text_moved ++ table 1 0
+    ++ (0xCC ∷ 0x49 ∷ 0x38 ∷ 0x49 ∷ 0x00 ∷ 0x22 ∷ 0xCE ∷ 0x41 ∷ []))
 
 -- the same with a note of two bytes; the table stands behind it; zeros behind the seven bytes of `a`
 unfoldable pub resize_journal : ℕ → List ℕ
@@ -88,12 +89,13 @@ resize_journal gate =
     gate ∷ 1 ∷
     (eight 0x20 0 ++ eight 0 77 ++ eight 0 49 ++ eight 0 2
     ++ none
-    ++ none
+    ++ (eight 0 0 ++ eight 0 0 ++ eight 0x05 0x3E)
     ++ (eight 4 0x40 ++ eight 0 0x1A ++ eight 0x05 0x24)
     ++ none
     ++ none
     ++ (eight 0x10 7 ++ eight 0 0xF9 ++ eight 0 0)
-    ++ header ++ text_shorter ++ (9 ∷ 9 ∷ []) ++ table 0 7)
+    ++ header ++ text_shorter ++ (9 ∷ 9 ∷ []) ++ table 0 7
+    ++ (0x8D ∷ 0x2A ∷ 0xDF ∷ 0x5B ∷ 0x6B ∷ 0x3C ∷ 0xBA ∷ 0x1E ∷ []))
 
 -- ---- disks that a cut leaves
 
@@ -151,13 +153,16 @@ pub record Recovers : Type 0 where
   pub closed : recovered 77 closed ≡ kept shorter text_shorter
 
 pub recovers : Recovers
-unfolding recovered resize_journal steps_fit writes_of after are_same_bytes elsewhere master put be32
+unfolding recovered resize_journal steps_fit writes_of after sum_from are_same_bytes elsewhere master put be32
 recovers = record { torn = refl; torn_again = refl; closing = refl; closed = refl }
 
--- ---- whose journal it is
+-- ---- whose journal it is, and whether it is whole
 
 abbrev beside : List ℕ → Disk
 beside image = record { image = image; journal = resize_journal 1; record_text = text_moved }
+
+abbrev holding : List ℕ → Disk
+holding journal = record { image = torn.image; journal = journal; record_text = text_moved }
 
 pub record Owners : Type 0 where
   pub own : found_in 77 torn ≡ Finished
@@ -169,10 +174,14 @@ pub record Owners : Type 0 where
   pub words : found_in 77 (beside (put moved 0x428 (replicate 8 0xEE))) ≡ Finished
   -- any first byte but 1
   pub closed : found_in 77 closing ≡ Nothing
+  -- a byte of the note is another, or the sum is cut short; bytes behind it do not count
+  pub changed : found_in 77 (holding (put (resize_journal 1) 1315 (8 ∷ []))) ≡ Another
+  pub cut : found_in 77 (holding (take 1349 (resize_journal 1))) ≡ Another
+  pub older : found_in 77 (holding (resize_journal 1 ++ (1 ∷ []))) ≡ Finished
 
 pub owners : Owners
-unfolding recovered resize_journal steps_fit are_same_bytes elsewhere master put be32
-owners = record { own = refl; number = (refl, refl); header = refl; longer = refl; words = refl; closed = refl }
+unfolding recovered resize_journal steps_fit sum_from are_same_bytes elsewhere master put be32
+owners = record { own = refl; number = (refl, refl); header = refl; longer = refl; words = refl; closed = refl; changed = refl; cut = refl; older = refl }
 
 -- ---- the second gate
 
@@ -196,5 +205,5 @@ pub record SecondGate : Type 0 where
   pub spoilt : slice_index (recovered 77 (moving 0 half_zeroed)).image 0x1000 ≡ 0xEE
 
 pub second-gate : SecondGate
-unfolding recovered move_journal steps_fit writes_of after are_same_bytes first elsewhere master put be32
+unfolding recovered move_journal steps_fit writes_of after sum_from are_same_bytes first elsewhere master put be32
 second-gate = record { before = refl; torn = refl; after = refl; spoilt = refl }

@@ -3,7 +3,9 @@
 
 #![allow(dead_code)]
 
+pub mod journal;
 pub mod power;
+pub mod shim;
 
 use std::collections::BTreeMap;
 use std::ffi::{CStr, OsStr, c_char};
@@ -130,6 +132,12 @@ fn signals_are_ignored() -> bool {
     })
 }
 
+/// The program that alone writes to images, where `program` finds it too.
+pub fn writer() -> PathBuf {
+    let beside = || Path::new(env!("CARGO_BIN_EXE_counter")).with_file_name("counter-write");
+    std::env::var_os("COUNTER_WRITE").map_or_else(beside, PathBuf::from)
+}
+
 pub fn run<S: AsRef<OsStr>>(args: &[S]) -> Run {
     program().args(args).output().unwrap().into()
 }
@@ -155,14 +163,16 @@ unsafe extern "C" {
     fn geteuid() -> u32;
 }
 
-/// A copy of the program that everybody may run.
+/// A copy of the program that everybody may run, with the one that writes beside it.
 pub fn copied(temp: &Temp) -> PathBuf {
-    let counter = temp.at("counter");
+    let (counter, beside) = (temp.at("counter"), temp.at("counter-write"));
     // Not by fs::copy: a child that another test starts meanwhile would hold the copy open, and none could
     // run it.
-    let copied = Command::new("cp").arg(env!("CARGO_BIN_EXE_counter")).arg(&counter).status();
-    assert!(copied.unwrap().success());
-    mode(&counter, 0o755);
+    for (from, to) in [(Path::new(env!("CARGO_BIN_EXE_counter")), &counter), (&writer(), &beside)] {
+        let copied = Command::new("cp").arg(from).arg(to).status();
+        assert!(copied.unwrap().success());
+        mode(to, 0o755);
+    }
     counter
 }
 
@@ -170,6 +180,8 @@ pub fn copied(temp: &Temp) -> PathBuf {
 pub fn held_back(program: &Path) -> Command {
     const NOBODY: u32 = 65534;
     let mut command = Command::new(program);
+    // The one that writes lies beside the copy.
+    command.env_remove("COUNTER_WRITE");
     if unsafe { geteuid() } == 0 {
         command.uid(NOBODY);
     }
@@ -267,6 +279,9 @@ pub fn accepted(image: &Path, args: &[&str]) -> String {
     assert_eq!(said(&told), dry);
     out
 }
+
+/// A journal whose gate is open, of no image that there is.
+pub const OPEN_JOURNAL: [u8; 1266] = [1; 1266];
 
 /// The journal of an edit of this image, and the clip of a fill.
 pub fn journal_of(image: &Path) -> PathBuf {

@@ -1,235 +1,258 @@
-//! Power cuts: from the log of what the program writes and syncs (src/disk.rs) the disk is rebuilt as a cut
+//! Power cuts: from the log of what the program writes, syncs and names (shim.rs) the disk is rebuilt as a cut
 //! at every step can leave it.
 //!
 //! What was synced is there. Of what was not, any part may be there, in sectors of 512 bytes and in any
-//! order; a sector may also hold what it held when the edit was halfway through it (the kernel may write a
-//! mapped page at any time). Names in a folder change in their order.
+//! order, in any mix of the files; a sector may be written in part, and may hold anything at all within the
+//! range of the write. A file that grows may have its length before its bytes. The names of a folder change in
+//! their order, and are there once that folder is synced.
 
-use std::collections::HashSet;
-use std::fs;
+use super::shim::*;
+use std::collections::{HashMap, HashSet};
 use std::hash::{DefaultHasher, Hash, Hasher};
-use std::path::Path;
 
 pub const SECTOR: u64 = 0x200;
 
-// The log ---------------------------------------------------------------------------------
-
-#[derive(Debug, Clone)]
-pub struct Step {
-    pub what: u8,
-    pub on: u8,
-    pub at: u64,
-    pub bytes: Vec<u8>,
-}
-
-pub const IMAGE: u8 = b'i';
-pub const JOURNAL: u8 = b'j';
-pub const CLIP: u8 = b'c';
-pub const RECORD: u8 = b'r';
-
-pub fn read_log(path: &Path) -> Vec<Step> {
-    let log = fs::read(path).unwrap_or_default();
-    let mut steps = Vec::new();
-    let mut at = 0;
-    let number = |at: usize| u64::from_le_bytes(log[at..at + 8].try_into().unwrap());
-    while at < log.len() {
-        let len = number(at + 10) as usize;
-        let bytes = log[at + 18..at + 18 + len].to_vec();
-        steps.push(Step { what: log[at], on: log[at + 1], at: number(at + 2), bytes });
-        at += 18 + len;
-    }
-    steps
-}
-
 // A disk ----------------------------------------------------------------------------------
 
-/// Which of the two names of a journal, or of a record's new text, is there.
+/// The names that come and go: the journal's, that of a record's new text, and the record's own.
 #[derive(Debug, Clone, Copy, PartialEq, Eq, Hash)]
 pub enum Name {
-    None,
+    Journal,
     Early,
     Own,
 }
 
-/// What changes in the folder.
-#[derive(Clone, Copy)]
-pub enum Change {
-    Journal(Name),
-    /// The clip's name comes, or goes.
-    Clip(bool),
-    Record(Name),
-}
-
 /// A state that the disk can be found in.
-#[derive(Clone, PartialEq, Eq, Hash)]
+#[derive(Clone, PartialEq, Eq)]
 pub struct Found {
     pub image: Vec<u8>,
-    pub name: Name,
-    pub journal: Vec<u8>,
-    /// The one in whose place it comes, as long as that has its name: a sheet's line before.
-    pub earlier: Option<Vec<u8>>,
-    pub has_clip: bool,
-    pub clip: Vec<u8>,
-    /// The record's new text, and in the same way the one before it.
-    pub record_name: Name,
-    pub record: Vec<u8>,
-    pub earlier_record: Option<Vec<u8>>,
+    pub journal: Option<Vec<u8>>,
+    /// The record's new text, under its first name: nobody reads it.
+    pub early: Option<Vec<u8>>,
+    pub record: Option<Vec<u8>>,
 }
 
 impl Found {
     /// As it is before an edit.
-    pub fn new(image: Vec<u8>) -> Found {
-        let (journal, clip, record) = (Vec::new(), Vec::new(), Vec::new());
-        let (name, record_name) = (Name::None, Name::None);
-        Found {
-            image,
-            name,
-            journal,
-            earlier: None,
-            has_clip: false,
-            clip,
-            record_name,
-            record,
-            earlier_record: None,
-        }
+    pub fn new(image: Vec<u8>, record: Option<Vec<u8>>) -> Found {
+        Found { image, journal: None, early: None, record }
     }
 
-    fn change(&mut self, change: Change) {
-        match change {
-            Change::Journal(name) => {
-                self.name = name;
-                self.earlier.take_if(|_| name != Name::Early);
-            }
-            Change::Clip(there) => self.has_clip = there,
-            Change::Record(name) => {
-                self.record_name = name;
-                self.earlier_record.take_if(|_| name == Name::Own);
-            }
-        }
+    /// Whether there is a journal with an open gate and a whole head behind it.
+    pub fn is_open(&self) -> bool {
+        self.journal.as_ref().is_some_and(|bytes| is_open(bytes))
     }
 
-    /// What the journal's own name leads to.
-    pub fn own_journal(&self) -> Option<&[u8]> {
-        match self.name {
-            Name::Own => Some(&self.journal),
-            _ => self.earlier.as_deref(),
-        }
-    }
-
-    /// What the record's file holds, where it is not the one before the edit.
-    pub fn own_record(&self) -> Option<&[u8]> {
-        match self.record_name {
-            Name::Own => Some(&self.record),
-            _ => self.earlier_record.as_deref(),
-        }
-    }
-
-    /// A new journal or record is begun, and the one that is there is the earlier one.
-    fn begin(&mut self, on: u8) {
-        let (name, bytes, earlier) = match on {
-            RECORD => (&mut self.record_name, &mut self.record, &mut self.earlier_record),
-            _ => (&mut self.name, &mut self.journal, &mut self.earlier),
-        };
-        if *name == Name::Own {
-            *earlier = Some(std::mem::take(bytes));
-            *name = Name::None;
-        }
-        bytes.clear();
+    fn key(&self) -> u64 {
+        let mut hash = DefaultHasher::new();
+        (&self.image, &self.journal, &self.record).hash(&mut hash);
+        hash.finish()
     }
 }
 
-/// The disk while the program runs: what is surely on it, and what may be.
+/// How many bytes the head of a journal has.
+pub const HEAD: usize = 1266;
+
+pub fn is_open(journal: &[u8]) -> bool {
+    journal.len() >= HEAD && journal[0] == 1
+}
+
+/// A file while the program runs: what is surely on the disk, and what may be.
+#[derive(Clone, Default)]
+struct Kept {
+    sure: Vec<u8>,
+    unsure: Vec<(u64, Vec<u8>)>,
+}
+
+/// A folder's next change: which name leads where from then on.
+#[derive(Clone)]
+struct Change {
+    folder: u64,
+    names: Vec<(Name, Option<usize>)>,
+}
+
+/// The disk while the program runs.
 #[derive(Clone)]
 pub struct Disk {
-    pub sure: Found,
-    image: Vec<(u64, Vec<u8>)>,
-    journal: Vec<(u64, Vec<u8>)>,
-    clip: Vec<(u64, Vec<u8>)>,
-    record: Vec<(u64, Vec<u8>)>,
-    names: Vec<Change>,
+    /// The image is the first.
+    files: Vec<Kept>,
+    /// Where the names surely lead, and where they lead for whoever reads now.
+    sure: [Option<usize>; 3],
+    seen: [Option<usize>; 3],
+    changes: Vec<Change>,
+    /// The numbers that files have while this program runs.
+    numbers: HashMap<u64, usize>,
+    /// How many edits the program has said to be done.
+    pub said: usize,
 }
 
 impl Disk {
-    pub fn new(sure: Found) -> Disk {
-        let (image, journal, clip, record) = Default::default();
-        Disk { sure, image, journal, clip, record, names: Vec::new() }
+    pub fn new(found: Found) -> Disk {
+        let mut files = vec![Kept { sure: found.image, unsure: Vec::new() }];
+        let names = [found.journal, found.early, found.record].map(|bytes| {
+            let sure = bytes?;
+            files.push(Kept { sure, unsure: Vec::new() });
+            Some(files.len() - 1)
+        });
+        let (changes, numbers) = Default::default();
+        Disk { files, sure: names, seen: names, changes, numbers, said: 0 }
+    }
+
+    /// What whoever reads finds: the end of the program alone leaves this.
+    pub fn seen(&self) -> Found {
+        let bytes = |file: usize| {
+            let mut bytes = self.files[file].sure.clone();
+            self.files[file].unsure.iter().for_each(|(at, part)| write(&mut bytes, *at, part));
+            bytes
+        };
+        let [journal, early, record] = self.seen.map(|file| file.map(bytes));
+        Found { image: bytes(0), journal, early, record }
+    }
+
+    /// The program ended, and another begins.
+    pub fn begin_anew(&mut self) {
+        self.numbers.clear();
+    }
+
+    fn file(&self, step: &Step) -> usize {
+        *self
+            .numbers
+            .get(&step.number)
+            .unwrap_or_else(|| panic!("a file that was not opened: {step:?}"))
+    }
+
+    /// The name that a step is about.
+    fn name_of(step: &Step) -> Name {
+        match step.on {
+            JOURNAL => Name::Journal,
+            RECORD if is_early(&step.bytes) => Name::Early,
+            _ => Name::Own,
+        }
     }
 
     pub fn take(&mut self, step: &Step) {
-        if step.what == b'c' && step.on != CLIP {
-            // No name is on its way.
-            assert!(self.names.is_empty());
-            self.sure.begin(step.on);
+        if step.failed {
+            // It asked for a file that is not there; what changes a file does not fail here.
+            assert!(!step.counts(), "a step that failed: {step:?}");
+            return;
         }
-        let (unsure, sure) = match step.on {
-            IMAGE => (&mut self.image, &mut self.sure.image),
-            JOURNAL => (&mut self.journal, &mut self.sure.journal),
-            CLIP => (&mut self.clip, &mut self.sure.clip),
-            RECORD => (&mut self.record, &mut self.sure.record),
-            other => panic!("a step on {other}"),
-        };
         match (step.what, step.on) {
-            (b'w', _) => unsure.extend(sectors(step.at, &step.bytes)),
-            (b's', _) => unsure.drain(..).for_each(|(at, bytes)| write(sure, at, &bytes)),
-            (b'c', on) => {
-                assert!(unsure.is_empty());
-                sure.clear();
-                self.names.push(match on {
-                    CLIP => Change::Clip(true),
-                    RECORD => Change::Record(Name::Early),
-                    _ => Change::Journal(Name::Early),
-                });
+            (b'o', IMAGE) => _ = self.numbers.insert(step.number, 0),
+            (b'o', JOURNAL | RECORD) => {
+                let file = self.seen[Disk::name_of(step) as usize];
+                self.numbers.insert(step.number, file.expect("a file that is there"));
             }
-            (b'r', RECORD) => self.names.push(Change::Record(Name::Own)),
-            (b'r', _) => self.names.push(Change::Journal(Name::Own)),
-            (b'd', CLIP) => self.names.push(Change::Clip(false)),
-            (b'd', RECORD) => self.names.push(Change::Record(Name::None)),
-            (b'd', _) => self.names.push(Change::Journal(Name::None)),
-            (b'f', _) => self.names.drain(..).for_each(|change| self.sure.change(change)),
+            (b'c', JOURNAL | RECORD) => {
+                self.files.push(Kept::default());
+                let file = self.files.len() - 1;
+                self.numbers.insert(step.number, file);
+                self.change(step.folder, vec![(Disk::name_of(step), Some(file))]);
+            }
+            (b'w', IMAGE | JOURNAL | RECORD) => {
+                let file = self.file(step);
+                self.files[file].unsure.extend(sectors(step.at, &step.bytes));
+            }
+            (b's', IMAGE | JOURNAL | RECORD) => {
+                let file = self.file(step);
+                let Kept { sure, unsure } = &mut self.files[file];
+                unsure.drain(..).for_each(|(at, bytes)| write(sure, at, &bytes));
+            }
+            (b'r', RECORD) => {
+                let file = self.file(step);
+                self.change(step.folder, vec![(Name::Early, None), (Name::Own, Some(file))]);
+            }
+            (b'u', JOURNAL) => self.change(step.folder, vec![(Name::Journal, None)]),
+            (b'u', RECORD) => self.change(step.folder, vec![(Name::Early, None)]),
+            (b'f', _) => {
+                let (done, left) =
+                    self.changes.drain(..).partition(|change| change.folder == step.folder);
+                self.changes = left;
+                done.into_iter().for_each(|change: Change| apply(&mut self.sure, &change));
+            }
+            (b'a', _) => self.said += usize::from(is_done(&step.bytes)),
+            // What changes nothing on the disk.
+            (b'o' | b'l' | b'x' | b'm' | b'b' | b'e' | b'R' | b's', _) => {}
             other => panic!("step {other:?}"),
         }
     }
 
-    /// The disk after a cut: of what is not sure, what `pick` says (0 not there, 1 there, else halfway).
-    fn cut(&self, mut pick: impl FnMut(usize) -> usize) -> Found {
-        let mut found = self.sure.clone();
-        for (at, bytes) in &self.image {
-            let part = taken(bytes, pick(bytes.len()));
-            write(&mut found.image, *at, &bytes[..part]);
-        }
-        for (unsure, file) in [
-            (&self.clip, &mut found.clip),
-            (&self.journal, &mut found.journal),
-            (&self.record, &mut found.record),
-        ] {
-            for (at, bytes) in unsure {
-                let part = taken(bytes, pick(bytes.len()));
-                write(file, *at, &bytes[..part]);
-                // The length may be there before the bytes.
-                if part == 0 && pick(2) == 1 {
-                    write(file, *at, &vec![0; bytes.len()]);
-                }
-            }
-        }
-        let mut names = self.names.iter();
-        while let (Some(change), 1..) = (names.next(), pick(1)) {
-            found.change(*change);
-        }
-        found
+    fn change(&mut self, folder: u64, names: Vec<(Name, Option<usize>)>) {
+        let change = Change { folder, names };
+        apply(&mut self.seen, &change);
+        self.changes.push(change);
     }
 
+    /// The disk after a cut: of what is not sure, what `pick` says.
+    fn cut(&self, mut pick: impl FnMut(usize) -> Pick) -> Found {
+        let mut names = self.sure;
+        let mut stopped = Vec::new();
+        for change in &self.changes {
+            // Of one folder each change comes after those before it.
+            if stopped.contains(&change.folder) {
+                continue;
+            }
+            match pick(1) {
+                Pick::None => stopped.push(change.folder),
+                _ => apply(&mut names, change),
+            }
+        }
+        let mut bytes = |file: usize| {
+            let Kept { sure, unsure } = &self.files[file];
+            let mut bytes = sure.clone();
+            for (at, part) in unsure {
+                match pick(part.len()) {
+                    // The length may be there before the bytes.
+                    Pick::None => {
+                        if file > 0 && pick(1) != Pick::None {
+                            let end = *at as usize + part.len();
+                            bytes.resize(end.max(bytes.len()), 0);
+                        }
+                    }
+                    Pick::Whole => write(&mut bytes, *at, part),
+                    Pick::Part(len) => write(&mut bytes, *at, &part[..len % (part.len() + 1)]),
+                    Pick::Spoiled(seed) => {
+                        let mut any = Random(seed | 1);
+                        let spoiled: Vec<u8> = part.iter().map(|_| any.below(256) as u8).collect();
+                        write(&mut bytes, *at, &spoiled);
+                    }
+                }
+            }
+            bytes
+        };
+        let image = bytes(0);
+        let [journal, early, record] = names.map(|file| file.map(&mut bytes));
+        Found { image, journal, early, record }
+    }
+
+    /// How many parts may be there or not.
     pub fn unsure(&self) -> usize {
-        let files = [&self.image, &self.journal, &self.clip, &self.record];
-        files.iter().map(|file| file.len()).sum::<usize>() + self.names.len()
+        self.files.iter().map(|file| file.unsure.len()).sum::<usize>() + self.changes.len()
     }
 }
 
-fn taken(bytes: &[u8], picked: usize) -> usize {
-    match picked {
-        0 => 0,
-        1 => bytes.len(),
-        part => part % bytes.len(),
-    }
+fn apply(names: &mut [Option<usize>; 3], change: &Change) {
+    change.names.iter().for_each(|(name, file)| names[*name as usize] = *file);
+}
+
+/// Whether a path is that of a record's new text.
+fn is_early(path: &[u8]) -> bool {
+    path.rsplit(|&b| b == b'/').next().unwrap().starts_with(b"counter-record.")
+}
+
+/// Whether an answer says that an edit, or one that was cut, is on the disk.
+fn is_done(answer: &[u8]) -> bool {
+    let text = String::from_utf8_lossy(answer);
+    text.contains("{\"answer\":\"done\"") || text.contains("\"found\":\"finished\"")
+}
+
+#[derive(Clone, Copy, PartialEq, Eq)]
+enum Pick {
+    None,
+    Whole,
+    /// So many of its first bytes.
+    Part(usize),
+    /// Any bytes.
+    Spoiled(u64),
 }
 
 fn sectors(at: u64, bytes: &[u8]) -> Vec<(u64, Vec<u8>)> {
@@ -253,6 +276,7 @@ fn write(file: &mut Vec<u8>, at: u64, bytes: &[u8]) {
 
 // Cuts ------------------------------------------------------------------------------------
 
+#[derive(Clone)]
 pub struct Random(pub u64);
 
 impl Random {
@@ -264,58 +288,51 @@ impl Random {
     }
 }
 
-/// States, each once, in their order.
-#[derive(Default)]
-pub struct States {
-    states: Vec<Found>,
-    known: HashSet<u64>,
-}
-
-impl States {
-    fn insert(&mut self, found: Found) {
-        let mut hash = DefaultHasher::new();
-        found.hash(&mut hash);
-        if self.known.insert(hash.finish()) {
-            self.states.push(found);
-        }
-    }
-}
-
 /// Random states at a point where much is unsure.
 pub const SUBSETS: usize = 20;
 
-/// The states that a cut can leave: at every step nothing and all of what is unsure; every subset
-/// where there are few unsure parts, and random ones, with halves, where there are many.
-pub fn cuts(start: &Found, steps: &[Step], random: &mut Random) -> Vec<Found> {
-    let mut disk = Disk::new(start.clone());
-    let mut all = States::default();
+/// The states that a cut can leave, each once, with how many edits had been said to be done: at every step nothing
+/// and all of what is unsure; every subset where there are few unsure parts, and random ones, with parts and with any
+/// bytes, where there are many.
+pub fn cuts(disk: &Disk, steps: &[Step], random: &mut Random, mut each: impl FnMut(&Found, usize)) {
+    let mut known = HashSet::new();
+    let mut insert = |found: Found, said: usize| {
+        if known.insert((found.key(), said)) {
+            each(&found, said);
+        }
+    };
+    let mut disk = disk.clone();
     for at in 0..=steps.len() {
-        all.insert(disk.cut(|_| 0));
-        all.insert(disk.cut(|_| 1));
-        if disk.unsure() > 0 && disk.unsure() <= 6 {
-            for set in 0..1usize << disk.unsure() {
+        insert(disk.cut(|_| Pick::None), disk.said);
+        insert(disk.cut(|_| Pick::Whole), disk.said);
+        let unsure = disk.unsure();
+        if unsure > 0 && unsure <= 6 {
+            for set in 0..1usize << unsure {
                 let mut bit = 0;
-                all.insert(disk.cut(|_| {
+                let found = disk.cut(|_| {
                     bit += 1;
-                    (set >> (bit - 1)) & 1
-                }));
+                    if (set >> (bit - 1)) & 1 == 1 { Pick::Whole } else { Pick::None }
+                });
+                insert(found, disk.said);
             }
         }
         // Where nothing is synced next, the following step has these states too.
         let last = steps.get(at).is_none_or(|step| matches!(step.what, b's' | b'f'));
-        if disk.unsure() > 0 && (last || random.below(8) == 0) {
+        if unsure > 0 && (last || random.below(8) == 0) {
             for turn in 0..SUBSETS {
                 // Some with few parts, some with most of them.
                 let most = [2, 8, 1][turn % 3];
-                all.insert(disk.cut(|len| match random.below(10) {
-                    0 if len > 2 => 2 + random.below(len - 2),
-                    n => usize::from(n % (most + 1) != 0),
-                }));
+                let found = disk.cut(|len| match random.below(10) {
+                    0 if len > 2 => Pick::Part(1 + random.below(len - 1)),
+                    1 => Pick::Spoiled(random.0),
+                    n if n % (most + 1) != 0 => Pick::Whole,
+                    _ => Pick::None,
+                });
+                insert(found, disk.said);
             }
         }
         if let Some(step) = steps.get(at) {
             disk.take(step);
         }
     }
-    all.states
 }

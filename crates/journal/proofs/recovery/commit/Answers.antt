@@ -6,7 +6,7 @@ use Rattle.journal.specs.declared.recovery.Found.TheVariants.{Finished}
 use Rattle.journal.proofs.Torn.{tears_journal_refl}
 use Rattle.journal.proofs.Carried.{then_on}
 use Rattle.journal.proofs.OnDisk.{leaves-carried, if_ok_both}
-use Rattle.journal.proofs.Recovered.{opening_leaves, opened_comes_from, recovered-opened, found_in-opened}
+use Rattle.journal.proofs.Recovered.{opening_leaves, opened_comes_from, recovered-opened, found_in-opened, whole-opened}
 use Rattle.journal.proofs.Drafts.{draft_first, draft_on}
 use Rattle.journal.proofs.recovery.commit.Goals as goal
 
@@ -43,3 +43,6 @@ returns-in_err-write_gate-clause-keeps g c = draft_first _ _ c.write_gate.ensure
 
 pub returns-clause-keeps : goal.returns-clause-keeps
 returns-clause-keeps g c = draft_on _ _ _ (draft_first _ _ c.write_gate.ensures.carried) c.recover.ensures.keeps
+
+pub recover-requires-clause-whole : goal.recover-requires-clause-whole
+recover-requires-clause-whole g c known gate = whole-opened c.args.number (g.F.Files.state c.args.files.now).seen _ (c.requires.ready known) (c.in_ok-write_gate.ensures.written known)

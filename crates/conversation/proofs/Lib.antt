@@ -1,0 +1,3 @@
+pub mod HexText
+pub mod Numbers
+pub mod Teams
