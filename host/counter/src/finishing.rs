@@ -311,7 +311,9 @@ fn started(
         Answer::Locked => return Ok(None),
         Answer::InTheWay => in_the_way(place),
         Answer::Old => old(place),
-        Answer::Another => useless(place, "it belongs to another image, or bytes of it were changed"),
+        Answer::Another => {
+            useless(place, "it belongs to another image, or bytes of it were changed")
+        }
         Answer::Failed(fault) if cut.is_some() && !fault.begun => {
             unfinished(place, about.edit, &fault.reason())
         }

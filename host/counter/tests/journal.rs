@@ -12,18 +12,6 @@ use support::power::{HEAD, Random};
 use support::shim::*;
 use support::*;
 
-const END: u32 = 0x4_0000;
-
-/// Free space is full of bytes that say where they are from.
-fn master() -> Vec<u8> {
-    let entries = [
-        file("film", 0x8000, 0x3210),
-        file("next", 0xB210, 0x700),
-        folder("d", vec![file("song", 0xC000, 0x2001)]),
-    ];
-    program_master(&entries, END, 78)
-}
-
 const MOVE: [&str; 3] = ["move", "film", "0x20000"];
 
 /// An image whose edit was cut, with its journal, and as it is afterwards.
@@ -36,7 +24,7 @@ struct Cut {
 impl Cut {
     /// A move that was cut when its table was written.
     fn new() -> Option<Cut> {
-        let fst = get(&master(), 0x424);
+        let fst = get(&film_master(), 0x424);
         Cut::at(&MOVE, |step| step.on == IMAGE && step.what == b'w' && step.at == u64::from(fst))
     }
 
@@ -47,7 +35,7 @@ impl Cut {
 
     /// A fill that was cut before its table was written, where the file lies.
     fn fill() -> Option<Cut> {
-        let fst = get(&master(), 0x424);
+        let fst = get(&film_master(), 0x424);
         Cut::at(&["fill", "d/song", "8000"], |step| {
             step.on == IMAGE && step.what == b'w' && step.at == u64::from(fst)
         })
@@ -55,7 +43,7 @@ impl Cut {
 
     /// The same elsewhere.
     fn fill_elsewhere() -> Option<Cut> {
-        let fst = get(&master(), 0x424);
+        let fst = get(&film_master(), 0x424);
         Cut::at(&["fill", "film", "13000"], |step| {
             step.on == IMAGE && step.what == b'w' && step.at == u64::from(fst)
         })
@@ -66,7 +54,7 @@ impl Cut {
         let shim = Shim::get()?;
         let temp = Temp::in_memory();
         let args = with_clip(&temp, args);
-        let image = temp.write("disc.iso", &master());
+        let image = temp.write("disc.iso", &film_master());
         let log = temp.at("log");
         let mut command = program();
         command.arg(&args[0]).arg(&image).args(&args[1..]);
@@ -76,7 +64,7 @@ impl Cut {
         let after = fs::read(&image).unwrap();
         let steps = read_log(&log).into_iter().filter(Step::counts);
         let n = 1 + steps.collect::<Vec<_>>().iter().position(is_it).expect("such a step");
-        fs::write(&image, master()).unwrap();
+        fs::write(&image, film_master()).unwrap();
         let mut command = program();
         command.arg(&args[0]).arg(&image).args(&args[1..]);
         shim.full_from(&mut command, n);
@@ -153,7 +141,7 @@ fn a_cut_edit_is_told_and_finished() {
     let Some(cut) = Cut::new() else { return };
     let before = cut.state();
     let svg = cut.temp.at("map.svg");
-    let other = cut.temp.write("other.iso", &master());
+    let other = cut.temp.write("other.iso", &film_master());
     let other = other.to_str().unwrap();
     let page = cut.temp.at("page.html");
     let reading: [&[&str]; 9] = [
@@ -223,7 +211,7 @@ fn what_became_of_a_cut_edit_is_told_as_json() {
 
     // The disk fails in the midst of the edit.
     let Some(shim) = Shim::get() else { return };
-    fs::write(&cut.image, master()).unwrap();
+    fs::write(&cut.image, film_master()).unwrap();
     let mut command = program();
     command.arg("move").arg(&cut.image).args(&MOVE[1..]).arg("--json");
     shim.at(&mut command, image_write(1), Do::From(FULL));
@@ -304,7 +292,7 @@ fn a_journal_that_is_closed_begins_no_edit() {
     all.extend([0, 2, 3, 0x81, 0xFE, 0xFF].map(closed));
     all.push(b"my notes on this image\n".to_vec());
     all.push(vec![7; 6 << 20]);
-    let before = master();
+    let before = film_master();
     for journal in &all {
         let what = format!("{} bytes, gate {:?}", journal.len(), journal.first());
         fs::write(&cut.image, &before).unwrap();
@@ -408,7 +396,7 @@ fn a_journal_whose_numbers_lie_is_never_applied() {
     let Some(cut) = Cut::early(&MOVE) else { return };
     let whole = Journal::read(&cut.journal());
     assert!(whole.bytes() == cut.journal());
-    let end = u64::from(END);
+    let end = u64::from(FILM_END);
     let edges = [0x43F, 0x427, 0x42D, 0x430, end - 1, end, end + 1, 1 << 32, 1 << 63, u64::MAX];
     let change = |change: &dyn Fn(&mut Journal)| {
         let mut lies = whole.clone();
@@ -561,7 +549,7 @@ fn a_journal_of_an_earlier_version_is_told_and_left() {
 #[test]
 fn a_journal_of_another_image_is_never_applied() {
     // Another header, another length.
-    for (at, len) in [(0x20, END), (0x434, END), (END as usize - 1, END - 1)] {
+    for (at, len) in [(0x20, FILM_END), (0x434, FILM_END), (FILM_END as usize - 1, FILM_END - 1)] {
         let Some(cut) = Cut::new() else { return };
         let file = File::options().write(true).open(&cut.image).unwrap();
         file.write_all_at(&[0x55], at as u64).unwrap();
@@ -585,7 +573,7 @@ fn a_journal_of_another_image_is_never_applied() {
     assert!(fs::read(&cut.image).unwrap() == cut.after);
     // The copy from before the edit, brought back: it gets what the journal says.
     let Some(cut) = Cut::new() else { return };
-    let aside = cut.temp.write("aside", &master());
+    let aside = cut.temp.write("aside", &film_master());
     let whole = cut.journal();
     let mut early = Journal::read(&whole);
     early.gates[1] = 0;
@@ -598,7 +586,7 @@ fn a_journal_of_another_image_is_never_applied() {
 /// What else is in the image is neither compared nor written.
 #[test]
 fn recovery_writes_what_the_journal_says_and_nothing_else() {
-    for at in [0x500, 0xB300, 0xC001, 0x3_0000, u64::from(END) - 1] {
+    for at in [0x500, 0xB300, 0xC001, 0x3_0000, u64::from(FILM_END) - 1] {
         let Some(cut) = Cut::new() else { return };
         cut.spoil(at);
         let mut wanted = cut.after.clone();
@@ -615,7 +603,7 @@ fn recovery_writes_what_the_journal_says_and_nothing_else() {
 #[test]
 fn what_is_no_journal_is_not_taken_for_one() {
     let temp = Temp::in_memory();
-    let image = temp.write("disc.iso", &master());
+    let image = temp.write("disc.iso", &film_master());
     let path = journal_of(&image);
     let before = State::of(&image);
     let whole = Cut::early(&MOVE).map(|cut| cut.journal()).unwrap_or_default();
@@ -655,7 +643,7 @@ fn what_is_no_journal_is_not_taken_for_one() {
 fn no_link_leads_a_record_elsewhere() {
     let Some(shim) = Shim::get() else { return };
     let temp = Temp::in_memory();
-    let image = temp.write("disc.iso", &master());
+    let image = temp.write("disc.iso", &film_master());
     let (record, link) = (temp.at("totals"), temp.at("link"));
     symlink("totals", &link).unwrap();
     let first = Table::of(&image).record_file(0);
@@ -666,7 +654,7 @@ fn no_link_leads_a_record_elsewhere() {
     assert_eq!(fs::read_to_string(&record).unwrap(), after);
     assert!(fs::symlink_metadata(&link).unwrap().is_symlink());
 
-    fs::write(&image, master()).unwrap();
+    fs::write(&image, film_master()).unwrap();
     fs::write(&record, &first).unwrap();
     let mut command = program();
     command.arg(args[0]).arg(&image).args(&args[1..]);
@@ -694,7 +682,7 @@ fn no_link_leads_a_record_elsewhere() {
 fn a_journal_that_cannot_be_written_ends_the_edit_before_it_begins() {
     let temp = Temp::in_memory();
     // The journal's name would be longer than a name may be.
-    let image = temp.write(&"n".repeat(250), &master());
+    let image = temp.write(&"n".repeat(250), &film_master());
     let before = State::of(&image);
     let run = on("move", &image, &MOVE[1..]);
     assert_eq!(run.status, 73, "{}", run.err);
@@ -709,7 +697,7 @@ fn a_journal_that_cannot_be_written_ends_the_edit_before_it_begins() {
 fn a_disk_that_does_not_tell_of_a_journal_is_an_error() {
     let Some(shim) = Shim::get() else { return };
     let temp = Temp::in_memory();
-    let image = temp.write("disc.iso", &master());
+    let image = temp.write("disc.iso", &film_master());
     let before = State::of(&image);
     for within in ["counter", WRITER] {
         for args in [&["check"][..], &["recover"], &["mkdir", "x"], &["move", "film", "0x20000"]] {
@@ -739,7 +727,7 @@ fn a_limit_of_a_files_size_is_an_error_like_others() {
     let temp = Temp::in_memory();
     let mut seen = Vec::new();
     for kilobytes in ["0", "1", "64", "100", "1000"] {
-        let image = temp.write("disc.iso", &master());
+        let image = temp.write("disc.iso", &film_master());
         let script = "ulimit -f \"$1\"; exec \"$2\" move \"$3\" film 0x20000 2>&1";
         let mut command = Command::new("bash");
         command.args(["-c", script, "bash", kilobytes, env!("CARGO_BIN_EXE_counter")]).arg(&image);
@@ -748,7 +736,7 @@ fn a_limit_of_a_files_size_is_an_error_like_others() {
         let now = fs::read(&image).unwrap();
         match run.status {
             0 => assert!(run.out.ends_with("done: written and synced\n"), "{}", run.out),
-            73 | 74 => assert!(now == master(), "{kilobytes}: {}", run.out),
+            73 | 74 => assert!(now == film_master(), "{kilobytes}: {}", run.out),
             78 => {
                 let out = done("recover", &image, &[]);
                 assert!(out.contains("finished an edit that was cut"), "{kilobytes}: {out}");

@@ -85,17 +85,6 @@ fn watched(temp: &Temp, args: &[&str], input: Option<&Path>) -> Option<(Run, Vec
     Some((run, calls))
 }
 
-const END: u32 = 0x4_0000;
-
-fn master() -> Vec<u8> {
-    let entries = [
-        file("film", 0x8000, 0x3210),
-        file("next", 0xB210, 0x700),
-        folder("d", vec![file("song", 0xC000, 0x2001)]),
-    ];
-    program_master(&entries, END, 78)
-}
-
 /// All commands that may have to do with an image's bytes. counter opens it for reading alone; counter-write opens it
 /// for writing, and else its journal and the record's new file.
 #[test]
@@ -108,7 +97,7 @@ fn counter_opens_no_image_for_writing() {
     let text =
         temp.write("text", b"mkdir /e\nmove /film 0x20000\nresize /next 0x600\nadd /e/new\n");
     let (sheet, record) = (temp.at("day.sheet"), temp.at("totals"));
-    let other = temp.write("other.iso", &master());
+    let other = temp.write("other.iso", &film_master());
     let [clip, text, sheet, record, other] =
         [&clip, &text, &sheet, &record, &other].map(|path| path.to_str().unwrap());
     assert_eq!(run(&["sheet", "--compile", text, sheet]).status, 0);
@@ -213,7 +202,7 @@ fn counter_opens_no_image_for_writing() {
     };
     for args in edits {
         for path in [&image, &link] {
-            fs::write(&image, master()).unwrap();
+            fs::write(&image, film_master()).unwrap();
             let _ = fs::remove_file(record);
             let dry = [args, &["--dry-run"]].concat();
             if !look(&dry, path, false) || !look(args, path, false) {
@@ -221,14 +210,14 @@ fn counter_opens_no_image_for_writing() {
             }
         }
     }
-    fs::write(&image, master()).unwrap();
+    fs::write(&image, film_master()).unwrap();
     for args in others {
         look(args, &link, false);
     }
     // One that was cut is finished by the next edit, and by recover.
     let Some(shim) = Shim::get() else { return };
     for args in [&["recover", "IMAGE"][..], &["recover", "IMAGE", "--anyway"], edits[7]] {
-        fs::write(&image, master()).unwrap();
+        fs::write(&image, film_master()).unwrap();
         let mut command = program();
         command.args(["move", image.to_str().unwrap(), "film", "0x20000", "--record", record]);
         let _ = fs::remove_file(record);

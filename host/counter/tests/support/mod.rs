@@ -417,6 +417,19 @@ pub fn program_to(path: &Path, at: u32) {
     file.write_all_at(&at.to_be_bytes(), 0x420).unwrap();
 }
 
+/// Where the disc of `film_master` ends.
+pub const FILM_END: u32 = 0x4_0000;
+
+/// Three files, and free space full of bytes that say where they are from.
+pub fn film_master() -> Vec<u8> {
+    let entries = [
+        file("film", 0x8000, 0x3210),
+        file("next", 0xB210, 0x700),
+        folder("d", vec![file("song", 0xC000, 0x2001)]),
+    ];
+    program_master(&entries, FILM_END, 78)
+}
+
 /// A disc of `end` bytes with these entries, slack behind their names and an empty program before the table;
 /// what is free holds a pattern.
 pub fn program_master(entries: &[Wish], end: u32, seed: u32) -> Vec<u8> {
