@@ -1,7 +1,7 @@
 -- What the calls give back in C: each answer's number, 0 where the call is accepted (RULES, Causes), and the
 -- slots that the caller lends, as many as the answer has words. With a refusal they stay. Assumes nothing:
 -- these are definitions.
-use Rattle.std.specs.Prelude.{Option, Some, None, Result, Ok, Err, ℕ, ◌-◌, ◌^◌, List, [], ◌∷◌, ◌++◌, replicate, slice_index, unwrap_or}
+use Rattle.std.specs.Prelude.{Option, Some, None, Result, Ok, Err, ℕ, zero, suc, ◌+◌, ◌-◌, ◌^◌, List, [], ◌∷◌, ◌++◌, replicate, slice_index, unwrap_or}
 use Rattle.std.specs.List.{flat_map}
 use Rattle.refusal.specs.declared.Refusal.{Refusal}
 use Rattle.refusal.specs.Refusal.{Verdict, number_of}
@@ -100,6 +100,18 @@ team_words m = m.limit ∷ m.share ∷ m.taken ∷ m.edits ∷ []
 -- then those of each team, in the order of their numbers
 abbrev pub totals_words : Totals → List ℕ
 totals_words t = t.used ∷ t.largest ∷ flat_map team_words t.teams
+
+-- the team whose words stand from `at` on, and n teams from there on
+abbrev pub team_at : List ℕ → ℕ → Team
+team_at slots at = record { limit = slice_index slots at; share = slice_index slots (at + 1); taken = slice_index slots (at + 2); edits = slice_index slots (at + 3) }
+
+unfoldable pub teams_at : List ℕ → ℕ → ℕ → List Team
+teams_at slots at zero = []
+teams_at slots at (suc n) = team_at slots at ∷ teams_at slots (at + 4) n
+
+-- the record that stands in 66 slots
+abbrev pub totals_in : List ℕ → Totals
+totals_in slots = record { used = slice_index slots 0; largest = slice_index slots 1; teams = teams_at slots 2 16 }
 
 -- kind 0 with offset and size, kind 1 with parent and next
 abbrev pub entry_words : ℕ → Entry → List ℕ

@@ -3,13 +3,11 @@ ghost use Rattle.std.specs.Prelude.{◌≡◌, length, take};
 ghost use Rattle.header.specs.Verdicts.{header_verdict};
 ghost use Rattle.disc.specs.Files.{open_dol_answer};
 ghost use Rattle.opened.specs.Opening.{zeros};
-ghost use Rattle.counter.specs.Replies.{reply, verdict_reply, dol_words, dol_reply, window_words};
-ghost use Rattle.counter.specs.Replies.{dol_window_reply};
+ghost use Rattle.counter.specs.Replies.{reply, verdict_reply, dol_reply, dol_window_reply};
 
 use crate::answer::give;
-use executable::DolHeader;
+use crate::slots;
 use header::DiscHeader;
-use window::Window;
 
 // The header is read field by field, and written back: the image's first 0x440 bytes.
 // Kept: an array, since the header of a disc has that many bytes, and C lends them (C).
@@ -30,20 +28,19 @@ pub extern "C" fn counter_header(image: &[u8], fields: &mut [u8; 0x440]) -> u32
 pub extern "C" fn counter_open_dol(
     image: &[u8],
     words: &mut [u32],
-    header: &mut DolHeader,
-    window: &mut Window,
+    header: &mut [u32; 57],
+    window: &mut [u64; 3],
 ) -> u32
-    ensures header_after { reply result (dol_words header.new)
-        ≡ dol_reply (dol_words header.old) (open_dol_answer image.now (length words.old)) }
-    ensures window_after { reply result (window_words window.new)
-        ≡ dol_window_reply (window_words window.old)
-        (open_dol_answer image.now (length words.old)) }
+    ensures header_after { reply result header.new
+        ≡ dol_reply header.old (open_dol_answer image.now (length words.old)) }
+    ensures window_after { reply result window.new
+        ≡ dol_window_reply window.old (open_dol_answer image.now (length words.old)) }
     ensures words_zero { words.new ≡ zeros words.old }
 {
     match disc::open_dol(image, words) {
         Ok(file) => {
-            *header = file.header;
-            give(window, Ok(file.window))
+            *header = slots::dol_words(file.header);
+            give(window, Ok(slots::window_words(file.window)))
         }
         Err(cause) => cause.into(),
     }

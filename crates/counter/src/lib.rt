@@ -12,6 +12,7 @@ mod reading;
 mod regions;
 mod runs;
 mod sheets;
+mod slots;
 mod tables;
 mod text;
 mod three_calls;

@@ -6,14 +6,13 @@ ghost use Rattle.edit.specs.TableAnew.{anew_answer, anew_buffer};
 ghost use Rattle.opened.specs.Opening.{zeros};
 ghost use Rattle.opened.specs.Faults.{fault_of};
 ghost use Rattle.counter.specs.Replies.{reply, reply_of, disc_words, disc_totals_words, totals_words};
-ghost use Rattle.counter.specs.Replies.{region_words, found_reply, program_reply, one_word, accepted_reply};
+ghost use Rattle.counter.specs.Replies.{found_reply, program_reply, one_word, accepted_reply};
 ghost use Rattle.counter.specs.Replies as replies;
 
 use crate::answer::give;
-use disc::DiscTotals;
-use opened::{About, Fault, Owner, Summary};
-use space::DiscRegion;
-use totals::{TEAMS, Totals};
+use crate::slots;
+use opened::{About, Fault, Owner};
+use totals::TEAMS;
 use tree::{Entry, Found};
 
 // ---- an answer that two calls give
@@ -74,22 +73,24 @@ fn fault_words(fault: Option<Fault>) -> [u32; 4]
 // ---- the calls
 
 #[unsafe(no_mangle)]
-pub extern "C" fn counter_open(image: &[u8], words: &mut [u32], answer: &mut Summary) -> u32
-    ensures answer { reply result (disc_words answer.new)
-        ≡ reply_of disc_words (disc_words answer.old) (open_answer image.now (length words.old)) }
+pub extern "C" fn counter_open(image: &[u8], words: &mut [u32], answer: &mut [u32; 5]) -> u32
+    ensures answer { reply result answer.new
+        ≡ reply_of disc_words answer.old (open_answer image.now (length words.old)) }
     ensures words_zero { words.new ≡ zeros words.old }
 {
-    give(answer, disc::open(image, words))
+    give(answer, disc::open(image, words).map(slots::disc_words))
 }
 
 #[unsafe(no_mangle)]
-pub extern "C" fn counter_totals(image: &[u8], words: &mut [u32], answer: &mut DiscTotals) -> u32
-    ensures answer { reply result (disc_totals_words answer.new)
-        ≡ reply_of disc_totals_words (disc_totals_words answer.old)
-        (totals_answer image.now (length words.old)) }
+pub extern "C" fn counter_totals(image: &[u8], words: &mut [u32], answer: &mut [u32; 2]) -> u32
+    ensures answer { reply result answer.new
+        ≡ reply_of disc_totals_words answer.old (totals_answer image.now (length words.old)) }
     ensures words_zero { words.new ≡ zeros words.old }
 {
-    give(answer, disc::totals(image, words))
+    give(
+        answer,
+        disc::totals(image, words).map(slots::disc_totals_words),
+    )
 }
 
 // A totals record of the image: used bytes, the largest free region's size, and teams of these
@@ -100,28 +101,31 @@ pub extern "C" fn counter_make_record(
     words: &mut [u32],
     limits: &[u32; TEAMS],
     shares: &[u32; TEAMS],
-    totals: &mut Totals,
+    totals: &mut [u32; 66],
 ) -> u32
-    ensures answer { reply result (totals_words totals.new)
-        ≡ reply_of totals_words (totals_words totals.old)
+    ensures answer { reply result totals.new
+        ≡ reply_of totals_words totals.old
         (record_answer image.now (length words.old) limits.now shares.now) }
     ensures words_zero { words.new ≡ zeros words.old }
 {
-    give(totals, disc::make_record(image, words, limits, shares))
+    match disc::make_record(image, words, limits, shares) {
+        Ok(record) => give(totals, Ok(slots::totals_words(&record))),
+        Err(cause) => give(totals, Err(cause)),
+    }
 }
 
 // Where the program lies; 0 and 0 where there is none.
 // Kept: 0 and 0 for none, since the two slots of counter.h say so (C).
 #[tactic(auto, unfolding(crate::specs::Replies::program_reply))]
 #[unsafe(no_mangle)]
-pub extern "C" fn counter_program(image: &[u8], words: &mut [u32], answer: &mut DiscRegion) -> u32
-    ensures answer { reply result (region_words answer.new)
-        ≡ program_reply (region_words answer.old) (program_answer image.now (length words.old)) }
+pub extern "C" fn counter_program(image: &[u8], words: &mut [u32], answer: &mut [u32; 2]) -> u32
+    ensures answer { reply result answer.new
+        ≡ program_reply answer.old (program_answer image.now (length words.old)) }
     ensures words_zero { words.new ≡ zeros words.old }
 {
     match disc::program(image, words) {
-        Ok(Some(region)) => give(answer, Ok(region)),
-        Ok(None) => give(answer, Ok(DiscRegion { offset: 0, size: 0 })),
+        Ok(Some(region)) => give(answer, Ok(slots::region_words(region))),
+        Ok(None) => give(answer, Ok([0, 0])),
         Err(cause) => give(answer, Err(cause)),
     }
 }
@@ -160,15 +164,18 @@ pub extern "C" fn counter_entries(
     image: &[u8],
     words: &mut [u32],
     list: &mut [u32],
-    answer: &mut Summary,
+    answer: &mut [u32; 5],
 ) -> u32
-    ensures answer { reply result (disc_words answer.new)
-        ≡ reply_of disc_words (disc_words answer.old)
+    ensures answer { reply result answer.new
+        ≡ reply_of disc_words answer.old
         (entries_answer image.now (length words.old) (length list.old)) }
     ensures list_after { list.new ≡ entries_list image.now (length words.old) list.old }
     ensures words_zero { words.new ≡ zeros words.old }
 {
-    give(answer, disc::entries(image, words, list))
+    give(
+        answer,
+        disc::entries(image, words, list).map(slots::disc_words),
+    )
 }
 
 // The table that a rewrite would write; the image stays.

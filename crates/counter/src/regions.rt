@@ -8,8 +8,8 @@ ghost use Rattle.disc.specs.Files.{max_file_size_answer};
 ghost use Rattle.counter.specs.Replies.{reply, reply_of, one_word, region_words};
 
 use crate::answer::give;
+use crate::slots;
 use refusal::Refusal;
-use space::DiscRegion;
 
 // How many regions there are; their number fits a slot, since each has a byte below the disc end.
 fn give_count(answer: &mut u32, listed: Result<usize, Refusal>) -> u32
@@ -91,12 +91,15 @@ pub extern "C" fn counter_allocate(
     words: &mut [u32],
     size: u32,
     align: u32,
-    answer: &mut DiscRegion,
+    answer: &mut [u32; 2],
 ) -> u32
-    ensures answer { reply result (region_words answer.new)
-        ≡ reply_of region_words (region_words answer.old)
+    ensures answer { reply result answer.new
+        ≡ reply_of region_words answer.old
         (allocate_answer image.now (length words.old) size align) }
     ensures words_zero { words.new ≡ zeros words.old }
 {
-    give(answer, disc::allocate(image, words, size, align))
+    give(
+        answer,
+        disc::allocate(image, words, size, align).map(slots::region_words),
+    )
 }

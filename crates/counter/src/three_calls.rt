@@ -1,17 +1,17 @@
 // A move or a resize in three calls: the copy, the table, the zeros. The copy only reads the record.
-ghost use Rattle.std.specs.Prelude.{◌≡◌, length};
+ghost use Rattle.std.specs.Prelude.{◌≡◌, ◌≢◌, length};
 ghost use Rattle.opened.specs.Opening.{zeros};
 ghost use Rattle.edit_rules.specs.Edits as edits;
 ghost use Rattle.edit_rules.specs.Promise.{loan};
 ghost use Rattle.edit.specs.Asked.{place_edit_of};
 ghost use Rattle.steps.specs.Parts.{zero_verdict, image_after_zeros};
 ghost use Rattle.steps.specs.Promise.{MakesCopy, WritesTable};
-ghost use Rattle.counter.specs.Replies.{reply, number_told, region_words, span_reply};
+ghost use Rattle.counter.specs.Replies.{reply, number_told, span_reply, totals_in};
 
 use crate::answer::give;
+use crate::slots;
 use space::DiscRegion;
 use steps::PlaceEdit;
-use totals::Totals;
 
 // Kept: image, words, bytes and record one by one, as in editing.rt (C, N).
 
@@ -21,17 +21,18 @@ fn give_copy(
     image: &mut [u8],
     words: &mut [u32],
     bytes: &mut [u8],
-    totals: &Totals,
+    totals: &[u32; 66],
     team: u32,
     edit: PlaceEdit,
 ) -> u32
     ensures { MakesCopy number_told (place_edit_of edit) team
-        (loan image.old words.old bytes.old totals.now)
-        (loan image.new words.new bytes.new totals.now) result }
+        (loan image.old words.old bytes.old (totals_in totals.now))
+        (loan image.new words.new bytes.new (totals_in totals.now)) result }
 {
+    let record = slots::totals_in(totals);
     give(
         &mut (),
-        steps::copy(image, words, bytes, totals, team, edit),
+        steps::copy(image, words, bytes, &record, team, edit),
     )
 }
 
@@ -40,14 +41,14 @@ pub extern "C" fn counter_move_copy(
     image: &mut [u8],
     words: &mut [u32],
     bytes: &mut [u8],
-    totals: &Totals,
+    totals: &[u32; 66],
     team: u32,
     file: u32,
     offset: u32,
 ) -> u32
     ensures { MakesCopy number_told (edits.move_file file offset) team
-        (loan image.old words.old bytes.old totals.now)
-        (loan image.new words.new bytes.new totals.now) result }
+        (loan image.old words.old bytes.old (totals_in totals.now))
+        (loan image.new words.new bytes.new (totals_in totals.now)) result }
 {
     give_copy(
         image,
@@ -64,14 +65,14 @@ pub extern "C" fn counter_resize_copy(
     image: &mut [u8],
     words: &mut [u32],
     bytes: &mut [u8],
-    totals: &Totals,
+    totals: &[u32; 66],
     team: u32,
     file: u32,
     size: u32,
 ) -> u32
     ensures { MakesCopy number_told (edits.resize_file file size) team
-        (loan image.old words.old bytes.old totals.now)
-        (loan image.new words.new bytes.new totals.now) result }
+        (loan image.old words.old bytes.old (totals_in totals.now))
+        (loan image.new words.new bytes.new (totals_in totals.now)) result }
 {
     give_copy(
         image,
@@ -89,19 +90,20 @@ fn give_table(
     image: &mut [u8],
     words: &mut [u32],
     bytes: &mut [u8],
-    totals: &mut Totals,
+    totals: &mut [u32; 66],
     team: u32,
     edit: PlaceEdit,
-    span: &mut DiscRegion,
+    span: &mut [u32; 2],
 ) -> u32
-    ensures { WritesTable (span_reply (region_words span.old)) (place_edit_of edit) team
-        (loan image.old words.old bytes.old totals.old)
-        (loan image.new words.new bytes.new totals.new) (reply result (region_words span.new)) }
+    ensures written { WritesTable (span_reply span.old) (place_edit_of edit) team
+        (loan image.old words.old bytes.old (totals_in totals.old))
+        (loan image.new words.new bytes.new (totals_in totals.new)) (reply result span.new) }
+    ensures refused { result ≢ 0 → totals.new ≡ totals.old }
 {
-    give(
-        span,
-        steps::write_table(image, words, bytes, totals, team, edit),
-    )
+    let mut record = slots::totals_in(totals);
+    let left = steps::write_table(image, words, bytes, &mut record, team, edit);
+    *totals = slots::totals_words(&record);
+    give(span, left.map(slots::region_words))
 }
 
 #[unsafe(no_mangle)]
@@ -109,15 +111,16 @@ pub extern "C" fn counter_move_table(
     image: &mut [u8],
     words: &mut [u32],
     bytes: &mut [u8],
-    totals: &mut Totals,
+    totals: &mut [u32; 66],
     team: u32,
     file: u32,
     offset: u32,
-    span: &mut DiscRegion,
+    span: &mut [u32; 2],
 ) -> u32
-    ensures { WritesTable (span_reply (region_words span.old)) (edits.move_file file offset) team
-        (loan image.old words.old bytes.old totals.old)
-        (loan image.new words.new bytes.new totals.new) (reply result (region_words span.new)) }
+    ensures written { WritesTable (span_reply span.old) (edits.move_file file offset) team
+        (loan image.old words.old bytes.old (totals_in totals.old))
+        (loan image.new words.new bytes.new (totals_in totals.new)) (reply result span.new) }
+    ensures refused { result ≢ 0 → totals.new ≡ totals.old }
 {
     give_table(
         image,
@@ -135,15 +138,16 @@ pub extern "C" fn counter_resize_table(
     image: &mut [u8],
     words: &mut [u32],
     bytes: &mut [u8],
-    totals: &mut Totals,
+    totals: &mut [u32; 66],
     team: u32,
     file: u32,
     size: u32,
-    span: &mut DiscRegion,
+    span: &mut [u32; 2],
 ) -> u32
-    ensures { WritesTable (span_reply (region_words span.old)) (edits.resize_file file size) team
-        (loan image.old words.old bytes.old totals.old)
-        (loan image.new words.new bytes.new totals.new) (reply result (region_words span.new)) }
+    ensures written { WritesTable (span_reply span.old) (edits.resize_file file size) team
+        (loan image.old words.old bytes.old (totals_in totals.old))
+        (loan image.new words.new bytes.new (totals_in totals.new)) (reply result span.new) }
+    ensures refused { result ≢ 0 → totals.new ≡ totals.old }
 {
     give_table(
         image,

@@ -10,7 +10,7 @@ use Rattle.totals.specs.declared.Totals.{Totals}
 use Rattle.window.specs.declared.Window.{Window}
 use Rattle.opened.specs.declared.faults.Owner.TheVariants as owner
 use Rattle.opened.specs.declared.faults.About.TheVariants as about
-use Rattle.counter.specs.Replies.{reply, accepted_reply, reply_of, fault_words, disc_words, disc_totals_words, region_words, one_word, run_words, window_in, window_words, totals_words, unit_words, dol_words, program_reply, found_reply, dol_reply, dol_window_reply, done_number, entry_reply, span_reply, sheet_reply}
+use Rattle.counter.specs.Replies.{reply, accepted_reply, reply_of, fault_words, disc_words, disc_totals_words, region_words, one_word, run_words, window_in, window_words, totals_in, teams_at, totals_words, unit_words, dol_words, program_reply, found_reply, dol_reply, dol_window_reply, done_number, entry_reply, span_reply, sheet_reply}
 
 -- slots as they were before the call
 abbrev old : List ℕ
@@ -91,9 +91,9 @@ teams_rising a (suc n) = record { limit = a; share = a + 1; taken = a + 2; edits
 abbrev a_record : Totals
 a_record = record { used = 1; largest = 2; teams = teams_rising 3 16 }
 
-record-slots : reply_of totals_words old (Ok a_record) ≡ reply 0 (rising 1 66)
-unfolding rising teams_rising
-record-slots = refl
+record-slots : (totals_in (rising 1 66) ≡ a_record) × (reply_of totals_words old (Ok a_record) ≡ reply 0 (rising 1 66))
+unfolding rising teams_rising teams_at
+record-slots = (refl, refl)
 
 -- "header[57]: 7 text and 11 data offsets, 7 and 11 addresses, 7 and 11 sizes, BSS address, BSS size, entry point. window[3]: .."
 
