@@ -21,7 +21,7 @@ use Rattle.opened.specs.Opening.{Disc}
 use Rattle.edit_rules.specs.Change.{written_image, table_verdict, Plan, refused, nothing, change, filled, place_verdict}
 use Rattle.edit_rules.specs.Edits.{plan_behind, plan_verdict, plan_image, plan_number, number_behind}
 use Rattle.edit_rules.proofs.Laws.Behind as behind
-use Rattle.edit.specs.Inner.Decision.{change_with, nothing_besides, placing_change, written_with, InImage, Fits, value_behind, carried_answer, IsDecided, DecidedAs}
+use Rattle.edit.specs.Inner.Decision.{change_with, nothing_besides, placing_change, written_with, InImage, Fits, IsSetApart, value_behind, carried_answer, IsDecided, DecidedAs}
 
 pub plan_behind-first : (a b : Verdict) (p : Plan) → plan_behind (first a b) p ≡ plan_behind a (plan_behind b p)
 plan_behind-first (Ok _) b p = refl
@@ -40,8 +40,12 @@ tests-refused (Err d) x c e = cc
 pub nothing-inside : (long : ℕ) → InImage long nothing_besides
 nothing-inside long = record {
   copied = record { from = λ z. absurd (omega arith); into = λ z. absurd (omega arith) };
-  apart = λ z. absurd (omega arith);
   zeroed = record { into = λ z. absurd (omega arith) };
+}
+
+pub nothing-apart : IsSetApart nothing_besides
+nothing-apart = record {
+  apart = λ z. absurd (omega arith);
   copy_behind = λ z. absurd (omega arith);
   lost_behind = λ z. absurd (omega arith);
 }
@@ -55,6 +59,7 @@ module _ (image : List ℕ) (x : Disc) (words room : ℕ) (bytes : List ℕ) whe
   refused-with : (clip : List ℕ) (p : Plan) (c : Refusal) → plan_verdict p x words room ≡ Err c → DecidedAs (plan_verdict p x words room) p image room bytes clip (Err c)
   refused-with clip p c e = record {
     fits = tt;
+    apart = tt;
     carries = tt;
     answer = sym e;
     after = sym (ap (λ (v : Verdict). cond (is_err v) image (plan_image p image)) e);
@@ -73,10 +78,11 @@ module _ (image : List ℕ) (x : Disc) (words room : ℕ) (bytes : List ℕ) whe
   behind-refused v p c e = behind-refused-with [] v p c e
 
   -- a change whose tests passed, with its table in the working bytes
-  pub write-decided : (k : ℕ) (nodes : List Node) (size : ℕ) (w : Writing) → Fits image room size w → table_verdict (change_with nodes w) x words room ≡ Ok tt → span bytes 0 size ≡ encode nodes →
+  pub write-decided : (k : ℕ) (nodes : List Node) (size : ℕ) (w : Writing) → Fits image room size w → IsSetApart w → table_verdict (change_with nodes w) x words room ≡ Ok tt → span bytes 0 size ≡ encode nodes →
       IsDecided (change k (change_with nodes w)) image x words room bytes (Ok (decision.Write k size w))
-  write-decided k nodes size w f e s = record {
-    fits = (record { into = λ z. omega arith; behind = λ z. absurd (omega arith) }, f);
+  write-decided k nodes size w f a e s = record {
+    fits = (λ z. omega arith, f);
+    apart = (λ z. absurd (omega arith), a);
     carries = record { number = refl; table = s; change = refl };
     answer = sym e;
     after = ap (λ (t : List ℕ). written_with w t image) s ∙ written_same image nodes w ∙ sym (ap (λ (v : Verdict). cond (is_err v) image (written_image (change_with nodes w) image)) e);

@@ -40,7 +40,7 @@ module _ (p : Plan) (image : List ℕ) (words room : ℕ) (bytes clip : List ℕ
   -- refused by the plan's tests, or by the record's
   pub refused-account_with : (c : Refusal) (x : Accounted) → counted_verdict p a image words room ≡ Err c → x ≡ account_with (Err c) a.totals → IsAccountedFor p image words room bytes clip a x
   refused-account_with c x e q = rw q (record {
-    decided = record { fits = tt; carries = tt; answer = sym e; after = rw e };
+    decided = record { fits = tt; apart = tt; carries = tt; answer = sym e; after = rw e };
     totals = rw e;
   })
 

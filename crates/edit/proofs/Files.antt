@@ -29,7 +29,7 @@ use Rattle.edit_rules.specs.Change.{change}
 use Rattle.edit_rules.specs.Edits.{file_verdict, is_overlapping, relocate_verdict, relocation_change, plan_behind, plan_move, plan_resize, plan_sized}
 use Rattle.edit.specs.declared.file.File.{File}
 use Rattle.edit.specs.Inner.Files.{IsFile, file_with_number, relocation_of}
-use Rattle.edit.specs.Inner.Decision.{InImage, IsDecided, value_behind}
+use Rattle.edit.specs.Inner.Decision.{LiesApart, IsDecided, value_behind}
 use Rattle.edit.proofs.Puts.{put-inside}
 use Rattle.edit.proofs.Decisions.{tests-passed, tests-refused, plan_behind-first, behind-passed, behind-refused}
 use Rattle.edit.proofs.Images.{one-behind, file-lies, new-place, end-in-image}
@@ -86,26 +86,34 @@ module _ (image : List ℕ) (words : ℕ) (known : IsOpenImage image words) (k :
   behind : (at : ℕ) → table_end image ≤ at → 0x440 ≤ at
   behind at h = omega (arith, known.reads.bounds.after-header)
 
-  pub relocate-inside : (new : DiscRegion) → relocate_verdict (free_space_of image) old new ≡ Ok tt → InImage (length image) (relocation_of old new)
+  pub relocate-inside : (new : DiscRegion) → relocate_verdict (free_space_of image) old new ≡ Ok tt → LiesApart (length image) (relocation_of old new)
   relocate-inside new p = record {
-    copied = record {
-      from = λ z. omega (arith, (lies (omega arith)).1);
-      into = λ z. omega (arith, (new-place image words known old new p (omega arith)).1, end-in-image image words known);
+    inside = record {
+      copied = record {
+        from = λ z. omega (arith, (lies (omega arith)).1);
+        into = λ z. omega (arith, (new-place image words known old new p (omega arith)).1, end-in-image image words known);
+      };
+      zeroed = record { into = λ z. (lies z).1 };
     };
-    apart = λ z. ⊎_elim (λ h. inr (omega arith)) (λ h. inl (omega arith)) (one-behind old new (refuse-passed (is_overlapping old new) OverlappingMove _ p).0 (omega arith) (omega arith));
-    zeroed = record { into = λ z. (lies z).1 };
-    copy_behind = λ z. behind new.offset (new-place image words known old new p (omega arith)).0;
-    lost_behind = λ z. behind old.offset (lies z).0;
+    apart = record {
+      apart = λ z. ⊎_elim (λ h. inr (omega arith)) (λ h. inl (omega arith)) (one-behind old new (refuse-passed (is_overlapping old new) OverlappingMove _ p).0 (omega arith) (omega arith));
+      copy_behind = λ z. behind new.offset (new-place image words known old new p (omega arith)).0;
+      lost_behind = λ z. behind old.offset (lies z).0;
+    };
   }
 
   pub resize-inside : (n lost : ℕ) → lost ≡ old.size - n →
-      InImage (length image) (record { old = old; place = record { offset = old.offset; size = n }; kept = 0; lost = record { offset = old.offset + n; size = lost } })
+      LiesApart (length image) (record { old = old; place = record { offset = old.offset; size = n }; kept = 0; lost = record { offset = old.offset + n; size = lost } })
   resize-inside n lost e = record {
-    copied = record { from = λ z. absurd (omega arith); into = λ z. absurd (omega arith) };
-    apart = λ z. absurd (omega arith);
-    zeroed = record { into = λ z. omega (arith, (lies (omega arith)).1) };
-    copy_behind = λ z. absurd (omega arith);
-    lost_behind = λ z. behind (old.offset + n) (omega (arith, (lies (omega arith)).0));
+    inside = record {
+      copied = record { from = λ z. absurd (omega arith); into = λ z. absurd (omega arith) };
+      zeroed = record { into = λ z. omega (arith, (lies (omega arith)).1) };
+    };
+    apart = record {
+      apart = λ z. absurd (omega arith);
+      copy_behind = λ z. absurd (omega arith);
+      lost_behind = λ z. behind (old.offset + n) (omega (arith, (lies (omega arith)).0));
+    };
   }
 
 -- ---- the decisions
@@ -142,4 +150,4 @@ module _ (image : List ℕ) (x : Disc) (words room : ℕ) (bytes : List ℕ) (fr
 
   module _ (old : DiscRegion) (n : ℕ) where
     pub size-kept : n ≡ old.size → IsDecided (plan_sized free nodes k old n) image x words room bytes (Ok decision.Nothing)
-    size-kept e = rw (eq-eqb n old.size e) (record { fits = tt; carries = tt; answer = refl; after = refl })
+    size-kept e = rw (eq-eqb n old.size e) (record { fits = tt; apart = tt; carries = tt; answer = refl; after = refl })

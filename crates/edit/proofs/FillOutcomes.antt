@@ -24,7 +24,7 @@ use Rattle.edit.proofs.Files.{FoundFile, file-found, file-refused}
 use Rattle.edit.specs.declared.decision.Writing.{Writing}
 use Rattle.edit.specs.declared.decision.Decision.{Decision}
 use Rattle.edit.specs.declared.decision.Decision.TheVariants as decision
-use Rattle.edit.specs.Inner.Decision.{value_behind, written_with, Fits, carried_image, IsDecided, DecidedAs}
+use Rattle.edit.specs.Inner.Decision.{value_behind, written_with, Fits, IsSetApart, carried_image, IsDecided, DecidedAs}
 use Rattle.edit.proofs.Decisions.{behind-refused-with}
 use Rattle.edit.proofs.Discs.{nodes_are}
 use Rattle.edit.specs.Inner.Filling.{uncopied_writing, with_clip, IsClear}
@@ -41,12 +41,12 @@ rest-fits image t clip room w k g =
       table = rw (n, offset-kept image t clip room w k g, size-kept image t clip room w k g) g.table;
       inside = record {
         copied = record { from = λ z. absurd (omega arith); into = λ z. absurd (omega arith) };
-        apart = λ z. absurd (omega arith);
         zeroed = rw n g.inside.zeroed;
-        copy_behind = λ z. absurd (omega arith);
-        lost_behind = g.inside.lost_behind;
       };
     }
+
+rest-apart : (w : Writing) → IsSetApart w → IsSetApart (uncopied_writing w)
+rest-apart w a = record { apart = λ z. absurd (omega arith); copy_behind = λ z. absurd (omega arith); lost_behind = a.lost_behind }
 
 module _ (image : List ℕ) (words room : ℕ) (bytes clip : List ℕ) (known : IsOpenImage image words) (k : ℕ) (f : IsFile (nodes_in image) k) (old : DiscRegion)
     (here : region_of (get_or (nodes_in image) k empty_root) ≡ old) (long : length bytes ≡ room) where
@@ -54,14 +54,15 @@ module _ (image : List ℕ) (words room : ℕ) (bytes clip : List ℕ) (known : 
   sized = plan_sized (free_space_of image) (nodes_in image) k old (length clip)
 
   filled-refused : (c : Refusal) → IsDecided sized image (disc_of image) words room bytes (Err c) → DecidedAs (plan_verdict sized (disc_of image) words room) (filled k clip sized) image room bytes clip (Err c)
-  filled-refused c h = record { fits = tt; carries = tt; answer = h.answer; after = rw (← h.answer) }
+  filled-refused c h = record { fits = tt; apart = tt; carries = tt; answer = h.answer; after = rw (← h.answer) }
 
   -- the clip goes where the file lies then
   filled-decided : (d : Decision) → IsDecided sized image (disc_of image) words room bytes (Ok d) → DecidedAs (plan_verdict sized (disc_of image) words room) (filled k clip sized) image room bytes clip (Ok (with_clip d (record { number = k; place = old })))
   filled-decided decision.Nothing h =
       let s = clip-stays image words known k f old here (length clip) bytes h.carries in
       record {
-        fits = s.0;
+        fits = s.0.into;
+        apart = s.0.behind;
         carries = rw s.1 refl;
         answer = h.answer;
         after =
@@ -78,7 +79,8 @@ module _ (image : List ℕ) (words room : ℕ) (bytes clip : List ℕ) (known : 
       let r : Fits (put image w.place.offset clip) room size (uncopied_writing w) = rw l at (rest-fits image t clip room w c g) in
       let i : carried_image (Ok (decision.Write n size w)) bytes [] image ≡ plan_image sized image = rw (← h.answer) at h.after in
       record {
-        fits = (record { into = s.0.into; behind = λ z. omega (arith, s.0.old-table z, h.fits.1.table.behind-header) }, rw (clipped_image-put image w.place.offset clip) r);
+        fits = (s.0.into, rw (clipped_image-put image w.place.offset clip) r);
+        apart = (λ z. omega (arith, s.0.old-table z, h.fits.1.table.behind-header), rest-apart w h.apart.1);
         carries = s.2;
         answer = h.answer;
         after =

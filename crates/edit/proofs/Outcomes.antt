@@ -19,9 +19,9 @@ use Rattle.edit_rules.specs.Edits.{table_change, relocate_verdict}
 use Rattle.opened.specs.Inner.Disc.{Opened, Means}
 use Rattle.edit.specs.declared.decision.Writing.{Writing}
 use Rattle.edit.specs.declared.decision.Decision.TheVariants as decision
-use Rattle.edit.specs.Inner.Decision.{InImage, IsDecided, Judges, placing_change, change_with, nothing_besides, judged_size}
+use Rattle.edit.specs.Inner.Decision.{LiesApart, IsDecided, Judges, placing_change, change_with, nothing_besides, judged_size}
 use Rattle.edit.proofs.Puts.{span-start}
-use Rattle.edit.proofs.Decisions.{nothing-inside, tests-passed, tests-refused, refused-decided, write-decided, same_tests}
+use Rattle.edit.proofs.Decisions.{nothing-inside, nothing-apart, tests-passed, tests-refused, refused-decided, write-decided, same_tests}
 use Rattle.edit.proofs.Discs.{nodes_are, free_is, new_table}
 use Rattle.edit.specs.declared.file.File.{File}
 use Rattle.edit.specs.Inner.Files.{IsFile, IsFileOf, relocation_of}
@@ -47,7 +47,7 @@ module _ (image : List ℕ) (d : Opened) (m : Means image d) where
     rewrite-decided size after e h =
         let n = new_table image d m (length bytes) no_region r judged size e in
         write-decided image d.disc d.words (length bytes) after 0 d.disc.nodes size nothing_besides
-        (record { table = n.fits; inside = nothing-inside (length image) }) n.passed
+        (record { table = n.fits; inside = nothing-inside (length image) }) nothing-apart n.passed
         (span-start bytes (encode d.disc.nodes) after size h n.held n.length-is)
 
   module _ (room : ℕ) (r : Result ℕ Refusal) (k : ℕ) (x : Writing) (judged : r ≡ judged_size d room x.place) where
@@ -56,11 +56,11 @@ module _ (image : List ℕ) (d : Opened) (m : Means image d) where
         refused-decided image d.disc d.words room bytes (change k (change_with (set_place k x.place.offset x.place.size d.disc.nodes) x)) c
         (same_tests d.disc d.words room k x.place.offset x.place.size d.disc.nodes x ∙ past room x.place r judged c e)
 
-    place-decided : (size : ℕ) (bytes : List ℕ) → r ≡ Ok size → InImage (length image) x → span bytes 0 size ≡ encode (set_place k x.place.offset x.place.size d.disc.nodes) →
+    place-decided : (size : ℕ) (bytes : List ℕ) → r ≡ Ok size → LiesApart (length image) x → span bytes 0 size ≡ encode (set_place k x.place.offset x.place.size d.disc.nodes) →
         IsDecided (change k (change_with (set_place k x.place.offset x.place.size d.disc.nodes) x)) image d.disc d.words room bytes (Ok (decision.Write k size x))
-    place-decided size bytes e inside h =
+    place-decided size bytes e l h =
         let n = new_table image d m room x.place r judged size e in
-        write-decided image d.disc d.words room bytes k (set_place k x.place.offset x.place.size d.disc.nodes) size x (record { table = n.fits; inside = inside })
+        write-decided image d.disc d.words room bytes k (set_place k x.place.offset x.place.size d.disc.nodes) size x (record { table = n.fits; inside = l.inside }) l.apart
         (same_tests d.disc d.words room k x.place.offset x.place.size d.disc.nodes x ∙ n.passed) h
 
   -- ---- another place
@@ -69,20 +69,20 @@ module _ (image : List ℕ) (d : Opened) (m : Means image d) where
     here : region_of (get_or d.disc.nodes f.number empty_root) ≡ f.place
     here = h.place
 
-    pub relocated-in-image : (new : DiscRegion) (v : Verdict) → v ≡ relocate_verdict (free_of d.disc) f.place new → v ≡ Ok tt → InImage (length image) (relocation_of f.place new)
+    pub relocated-in-image : (new : DiscRegion) (v : Verdict) → v ≡ relocate_verdict (free_of d.disc) f.place new → v ≡ Ok tt → LiesApart (length image) (relocation_of f.place new)
     relocated-in-image new v judged passed =
         relocate-inside image d.words m.known f.number f.place (rw (nodes_are image d m) here) new (rw (free_is image d m) (sym judged ∙ passed))
 
     pub resized-in-image : (n lost : ℕ) → lost ≡ f.place.size - n →
-        InImage (length image) (record { old = f.place; place = record { offset = f.place.offset; size = n }; kept = 0; lost = record { offset = f.place.offset + n; size = lost } })
+        LiesApart (length image) (record { old = f.place; place = record { offset = f.place.offset; size = n }; kept = 0; lost = record { offset = f.place.offset + n; size = lost } })
     resized-in-image n lost e = resize-inside image d.words m.known f.number f.place (rw (nodes_are image d m) here) n lost e
 
 -- a file's place judged: room for the table, and what it comes to with that table in any bytes
-pub place-judged : (d : Opened) (room : ℕ) (r : Result ℕ Refusal) (k : ℕ) (x : Writing) → r ≡ judged_size d room x.place → (size : ℕ) → r ≡ Ok size → IsFile d.disc.nodes k → ((image : List ℕ) → Means image d → InImage (length image) x) →
+pub place-judged : (d : Opened) (room : ℕ) (r : Result ℕ Refusal) (k : ℕ) (x : Writing) → r ≡ judged_size d room x.place → (size : ℕ) → r ≡ Ok size → IsFile d.disc.nodes k → ((image : List ℕ) → Means image d → LiesApart (length image) x) →
     length (encode d.disc.nodes) ≤ room → length (encode d.disc.nodes) ≤ 2 ^ 24 → Judges (change k (change_with (set_place k x.place.offset x.place.size d.disc.nodes) x)) d room (Ok (decision.Write k size x))
-place-judged d room r k x judged size e f inside held small =
+place-judged d room r k x judged size e f apart held small =
     let n : length (encode d.disc.nodes) ≡ size = (tests-passed _ (length (encode d.disc.nodes)) size (sym judged ∙ e)).1 in
     record {
       draftable = record { file = f; long = sym n; held = omega (arith, n); small = omega (arith, n) };
-      decides = λ bytes t image m. place-decided image d m room r k x judged size bytes e (inside image m) t;
+      decides = λ bytes t image m. place-decided image d m room r k x judged size bytes e (apart image m) t;
     }

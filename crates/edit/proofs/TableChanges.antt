@@ -23,7 +23,7 @@ use Rattle.edit.specs.declared.decision.Decision.{Decision}
 use Rattle.edit.specs.declared.decision.Decision.TheVariants as decision
 use Rattle.edit.specs.Inner.Decision.{Decides, nothing_besides}
 use Rattle.edit.proofs.Puts.{span-start}
-use Rattle.edit.proofs.Decisions.{nothing-inside, refused-decided, write-decided}
+use Rattle.edit.proofs.Decisions.{nothing-inside, nothing-apart, refused-decided, write-decided}
 use Rattle.edit.proofs.Images.{table-tests, place-fits}
 
 -- ---- a tree that could not be built: what it grows into cannot be written either
@@ -57,6 +57,7 @@ module _ (s : List ℕ) (size k : ℕ) (d : Opened) (st : Stands s size d.words)
         table = place-fits image d.words m.known d.disc m.is (length s) size no_region (sym judged ∙ e);
         inside = nothing-inside (length image);
       })
+      nothing-apart
       (place-only ∙ e)
       (span-start s (encode (tree_in s size)) s size (sym (front s size d.words st)) (omega (arith, size_is s size d.words st, st.held)) (size_is s size d.words st))
 

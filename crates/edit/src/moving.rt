@@ -6,7 +6,7 @@ ghost use Rattle.edit_rules.specs.Edits as edits_of;
 ghost use Rattle.edit_rules.specs.Edits.{plan_behind, relocate_verdict, relocation_change, plan_of};
 ghost use Rattle.opened.specs.Opening.{free_of};
 ghost use Rattle.opened.specs.Inner.Disc.{Means};
-ghost use Rattle.edit.specs.Inner.Decision.{InImage, change_with, Decides, Judges};
+ghost use Rattle.edit.specs.Inner.Decision.{LiesApart, change_with, Decides, Judges};
 ghost use Rattle.edit.specs.Inner.Files.{IsFile, IsFileOf, relocation_of};
 
 use crate::decision::{Decision, Span, Writing};
@@ -41,7 +41,7 @@ pub(crate) fn place_file(
     writing: Writing,
 ) -> Result<Decision, Refusal>
     requires is_file { IsFile disc.now.disc.nodes number }
-    requires inside { (image : List ℕ) → Means image disc.now → InImage (length image) writing }
+    requires inside { (image : List ℕ) → Means image disc.now → LiesApart (length image) writing }
     ensures { let place = writing.place in
         let nodes = insert_of.set_place number place.offset place.size disc.now.disc.nodes in
         Judges (change number (change_with nodes writing)) disc.now room result }

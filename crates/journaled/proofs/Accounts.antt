@@ -118,6 +118,7 @@ decided-can r team image words room bytes clip totals totals' d all is long f =
     let e = entered (edit_asked r clip) team image words room bytes clip totals totals' d f in
     record {
       fits = subst (λ (n : ℕ). CanCarry image n clip (Ok d)) (sym long) f.decided.fits;
+      apart = f.decided.apart;
       aside = clip-aside r clip (first (opening image words) (team_verdict team)) (disc_of image) d bytes is f.decided.carries;
       long = long_opened image words (opens image words all (accepted (edit_asked r clip) (account totals team) image words room e.verdict).opens);
     }

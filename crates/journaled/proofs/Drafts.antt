@@ -11,7 +11,7 @@ use Rattle.edit_rules.proofs.Laws.Puts.{put-length, field_below, span-length}
 use Rattle.edit.specs.declared.decision.Writing.{Writing}
 use Rattle.edit.specs.declared.decision.Decision.{Decision}
 use Rattle.edit.specs.declared.decision.Decision.TheVariants as decision
-use Rattle.edit.specs.Inner.Decision.{CanCarry, ClipFits, clipped_image, written_with, carried_image, decision_number}
+use Rattle.edit.specs.Inner.Decision.{CanCarry, WritesApart, ClipFits, clipped_image, written_with, carried_image, decision_number}
 use Rattle.edit.proofs.Clips.{clipped_image-put}
 use Rattle.edit.proofs.Puts.{committed, copied_none, filled_none}
 use Rattle.journal.specs.declared.draft.Draft.{Draft}
@@ -68,7 +68,10 @@ clip-behind image from to n (b ∷ clip) h =
     let e : n ≡ 0 = h (omega arith) in
     ap (λ (s : List ℕ). put s to (b ∷ clip)) (sym (copied_none image from to n e)) ∙ copied_none (put image to (b ∷ clip)) from to n e
 
-module _ (image bytes clip : List ℕ) (k n : ℕ) (w : Writing) (can : CanCarry image (length bytes) clip (Ok (decision.Write k n w))) (aside : 0 < length clip → w.kept ≡ 0) where
+module _ (image bytes clip : List ℕ) (k n : ℕ) (w : Writing) (can : CanCarry image (length bytes) clip (Ok (decision.Write k n w))) (apart : WritesApart clip (Ok (decision.Write k n w))) (aside : 0 < length clip → w.kept ≡ 0) where
+  clip-there : ClipFits (length image) w.place.offset (length clip)
+  clip-there = record { into = can.0; behind = apart.0 }
+
   abbrev c : List ℕ
   c = clipped_image image w.place.offset clip
 
@@ -76,7 +79,7 @@ module _ (image bytes clip : List ℕ) (k n : ℕ) (w : Writing) (can : CanCarry
   first = put c w.place.offset (span c w.old.offset w.kept)
 
   same-length : length c ≡ length image
-  same-length = length-clipped image clip w.place.offset can.0
+  same-length = length-clipped image clip w.place.offset clip-there
 
   first-length : length first ≡ length c
   first-length =
@@ -84,10 +87,10 @@ module _ (image bytes clip : List ℕ) (k n : ℕ) (w : Writing) (can : CanCarry
       put-length c w.place.offset (span c w.old.offset w.kept) (λ z. omega (arith, l, can.1.inside.copied.into (rw l at z)))
 
   offset-kept : fst_offset c ≡ fst_offset image
-  offset-kept = field-kept image clip w.place.offset can.0 0x424 (omega arith)
+  offset-kept = field-kept image clip w.place.offset clip-there 0x424 (omega arith)
 
   size-kept : fst_size c ≡ fst_size image
-  size-kept = field-kept image clip w.place.offset can.0 0x428 (omega arith)
+  size-kept = field-kept image clip w.place.offset clip-there 0x428 (omega arith)
 
   abbrev t : List ℕ
   t = span bytes 0 n
@@ -109,11 +112,11 @@ module _ (image bytes clip : List ℕ) (k n : ℕ) (w : Writing) (can : CanCarry
       ∙ ap (λ (s : List ℕ). put s w.lost.offset (replicate w.lost.size 0)) tabled)
 
 -- LAW: the draft of a decision comes to what the decision comes to
-pub draft-comes : (decided : Decision) (d : Draft) (image bytes clip : List ℕ) → IsDraftOf (fst_offset image) (fst_size image) bytes decided d → CanCarry image (length bytes) clip (Ok decided) → IsAside decided clip
+pub draft-comes : (decided : Decision) (d : Draft) (image bytes clip : List ℕ) → IsDraftOf (fst_offset image) (fst_size image) bytes decided d → CanCarry image (length bytes) clip (Ok decided) → WritesApart clip (Ok decided) → IsAside decided clip
     → after (draft_writes d clip) (copied d.copy image) ≡ carried_image (Ok decided) bytes clip image
-draft-comes decision.Nothing d image bytes clip h can aside = alone-comes d image clip h ∙ put-empty image d.clip.at clip aside.uncopied
-draft-comes (decision.Clip n at) d image bytes clip h can aside = alone-comes d image clip h.0 ∙ rw h.1 (sym (clipped_image-put image at clip))
-draft-comes (decision.Write k n w) d image bytes clip h can aside = written-comes image bytes clip k n w can aside.uncopied d h
+draft-comes decision.Nothing d image bytes clip h can apart aside = alone-comes d image clip h ∙ put-empty image d.clip.at clip aside.uncopied
+draft-comes (decision.Clip n at) d image bytes clip h can apart aside = alone-comes d image clip h.0 ∙ rw h.1 (sym (clipped_image-put image at clip))
+draft-comes (decision.Write k n w) d image bytes clip h can apart aside = written-comes image bytes clip k n w can apart aside.uncopied d h
 
 -- where nothing is written at all, nothing is changed
 pub idle-same : (d : Draft) (clip : List ℕ) (k : Kept) → IsIdle d → d.clip.len ≡ length clip → kept_after d clip k ≡ k
@@ -187,27 +190,24 @@ alone-fits long d a clip = record {
   short_word = omega (arith, a.word);
 }
 
-clip-fits : (long at n : ℕ) → ClipFits long at n → CanWrite long at n
-clip-fits long at n k = can-write long at n k.into k.behind
-
-writes-fit : (decided : Decision) (d : Draft) (image bytes clip : List ℕ) → IsDraftOf (fst_offset image) (fst_size image) bytes decided d → CanCarry image (length bytes) clip (Ok decided) → IsAside decided clip
+writes-fit : (decided : Decision) (d : Draft) (image bytes clip : List ℕ) → IsDraftOf (fst_offset image) (fst_size image) bytes decided d → CanCarry image (length bytes) clip (Ok decided) → WritesApart clip (Ok decided) → IsAside decided clip
     → d.clip.len ≡ length clip → 0x440 ≤ length image → WritesFit (length image) d
-writes-fit decision.Nothing d image bytes clip h can aside e head = alone-fits (length image) d h (nothing-writes (length image) d.clip.at d.clip.len (e ∙ aside.uncopied))
-writes-fit (decision.Clip n at) d image bytes clip h can aside e head = alone-fits (length image) d h.0 (rw (e, h.1) (clip-fits (length image) at (length clip) can))
-writes-fit (decision.Write k n w) d image bytes clip h can aside e head =
-    let long : length (clipped_image image w.place.offset clip) ≡ length image = length-clipped image clip w.place.offset can.0 in
-    let f : fst_offset (clipped_image image w.place.offset clip) ≡ fst_offset image = offset-kept image bytes clip k n w can aside.uncopied in
-    let s : fst_size (clipped_image image w.place.offset clip) ≡ fst_size image = size-kept image bytes clip k n w can aside.uncopied in
+writes-fit decision.Nothing d image bytes clip h can apart aside e head = alone-fits (length image) d h (nothing-writes (length image) d.clip.at d.clip.len (e ∙ aside.uncopied))
+writes-fit (decision.Clip n at) d image bytes clip h can apart aside e head = alone-fits (length image) d h.0 (rw (e, h.1) (can-write (length image) at (length clip) can apart))
+writes-fit (decision.Write k n w) d image bytes clip h can apart aside e head =
+    let long : length (clipped_image image w.place.offset clip) ≡ length image = same-length image bytes clip k n w can apart aside.uncopied in
+    let f : fst_offset (clipped_image image w.place.offset clip) ≡ fst_offset image = offset-kept image bytes clip k n w can apart aside.uncopied in
+    let s : fst_size (clipped_image image w.place.offset clip) ≡ fst_size image = size-kept image bytes clip k n w can apart aside.uncopied in
     let t = rw (long, f, s) at can.1.table in
     let i = rw long at can.1.inside in
     let l : length (span bytes 0 n) ≡ n = length-span bytes 0 n (omega (arith, t.held)) in
     record {
-      copy = rw (h.from, h.to, h.kept) (copying-fits (length image) w.old.offset w.place.offset w.kept i.copied.from (can-write (length image) w.place.offset w.kept i.copied.into i.copy_behind) i.apart);
-      clip = rw (e, h.clip) (clip-fits (length image) w.place.offset (length clip) can.0);
+      copy = rw (h.from, h.to, h.kept) (copying-fits (length image) w.old.offset w.place.offset w.kept i.copied.from (can-write (length image) w.place.offset w.kept i.copied.into apart.1.copy_behind) apart.1.apart);
+      clip = rw (e, h.clip) (can-write (length image) w.place.offset (length clip) can.0 apart.0);
       table = rw (h.table, h.table_bytes, l) (can-write (length image) (fst_offset image) n (λ z. t.into) (λ z. t.behind-header));
       tail = rw (h.tail, h.tail_len) (can-write (length image) (fst_offset image + n) (fst_size image - n) (λ z. omega (arith, t.old)) (λ z. omega (arith, t.behind-header)));
       word = rw (h.word, h.word_bytes) (λ some. rw (le-leb 0x42C (length image) (omega arith)));
-      lost = rw (h.lost, h.lost_len) (can-write (length image) w.lost.offset w.lost.size i.zeroed.into i.lost_behind);
+      lost = rw (h.lost, h.lost_len) (can-write (length image) w.lost.offset w.lost.size i.zeroed.into apart.1.lost_behind);
       short_table = rw (h.table_bytes, l) t.small;
       short_word = rw h.word_bytes (omega arith);
     }
@@ -255,7 +255,7 @@ module _ (image clip : List ℕ) (d : Draft) (w : WritesFit (length image) d) (o
 -- LAW: the draft of a decision fits
 pub draft-fits : (decided : Decision) (d : Draft) (image bytes clip : List ℕ) → IsDraftOf (fst_offset image) (fst_size image) bytes decided d → CanMake image bytes clip decided → IsOf image clip d
     → DraftFits d (length image) (length clip)
-draft-fits decided d image bytes clip h can of = all_fit image clip d (writes-fit decided d image bytes clip h can.fits can.aside of.clip_len can.long) of can.aside.short can.long
+draft-fits decided d image bytes clip h can of = all_fit image clip d (writes-fit decided d image bytes clip h can.fits can.apart can.aside of.clip_len can.long) of can.aside.short can.long
 
 -- ---- a draft of what is decided on, with a record or none
 
@@ -270,7 +270,7 @@ module _ (order : Order) (totals : Totals) (decided : Decision) (d : Draft) (byt
       → kept_after d clip k ≡ kept_carried order totals decided bytes clip k
   draft-carried image k same h can has text =
       rw
-      (draft-comes decided d k.image bytes clip (subst (λ (i : List ℕ). IsDraftOf (fst_offset i) (fst_size i) bytes decided d) same h) (subst (λ (i : List ℕ). CanCarry i (length bytes) clip (Ok decided)) same can.fits) can.aside)
+      (draft-comes decided d k.image bytes clip (subst (λ (i : List ℕ). IsDraftOf (fst_offset i) (fst_size i) bytes decided d) same h) (subst (λ (i : List ℕ). CanCarry i (length bytes) clip (Ok decided)) same can.fits) can.apart can.aside)
       (go order.keeps_record refl)
     where
       go : (keeps : Bool) → order.keeps_record ≡ keeps

@@ -63,20 +63,9 @@ pub record TableFits (long room f size new : ℕ) : Type 0 where
   pub held : new ≤ room
   pub small : new < 2 ^ 32
 
--- n bytes at `at` lie behind the header; nothing is asked where there is no byte
-abbrev pub BehindHeader : ℕ → ℕ → Type 0
-BehindHeader at n = 0 < n → 0x440 ≤ at
-
--- n bytes here and n bytes there share none
-abbrev pub AreApart : ℕ → ℕ → ℕ → Type 0
-AreApart here there n = 0 < n → (here + n ≤ there) ⊎ (there + n ≤ here)
-
 pub record InImage (long : ℕ) (w : Writing) : Type 0 where
   pub copied : CopyFits long w.old.offset w.place.offset w.kept
-  pub apart : AreApart w.old.offset w.place.offset w.kept
   pub zeroed : ZeroFits long w.lost.offset w.lost.size
-  pub copy_behind : BehindHeader w.place.offset w.kept
-  pub lost_behind : BehindHeader w.lost.offset w.lost.size
 
 pub record Fits (image : List ℕ) (room size : ℕ) (w : Writing) : Type 0 where
   pub table : TableFits (length image) room (fst_offset image) (fst_size image) size
@@ -88,11 +77,6 @@ pub record Fits (image : List ℕ) (room size : ℕ) (w : Writing) : Type 0 wher
 abbrev pub Into : ℕ → ℕ → ℕ → Type 0
 Into long at n = 0 < n → at + n ≤ long
 
--- a clip of n bytes lies there, behind the header
-pub record ClipFits (long at n : ℕ) : Type 0 where
-  pub into : Into long at n
-  pub behind : BehindHeader at n
-
 -- the image with the clip at its place; most edits have none
 abbrev pub clipped_image : List ℕ → ℕ → List ℕ → List ℕ
 clipped_image image at [] = image
@@ -103,8 +87,8 @@ clipped_image image at (b ∷ clip) = put image at (b ∷ clip)
 abbrev pub CanCarry : List ℕ → ℕ → List ℕ → Result Decision Refusal → Type 0
 CanCarry image room clip (Err c) = Unit {0}
 CanCarry image room clip (Ok decision.Nothing) = Unit {0}
-CanCarry image room clip (Ok (decision.Clip n at)) = ClipFits (length image) at (length clip)
-CanCarry image room clip (Ok (decision.Write n size w)) = ClipFits (length image) w.place.offset (length clip) × Fits (clipped_image image w.place.offset clip) room size w
+CanCarry image room clip (Ok (decision.Clip n at)) = Into (length image) at (length clip)
+CanCarry image room clip (Ok (decision.Write n size w)) = Into (length image) w.place.offset (length clip) × Fits (clipped_image image w.place.offset clip) room size w
 
 abbrev pub carried_verdict : Result Decision Refusal → Verdict
 carried_verdict (Err c) = Err c
@@ -131,6 +115,38 @@ carried_image (Err c) bytes clip image = image
 carried_image (Ok decision.Nothing) bytes clip image = image
 carried_image (Ok (decision.Clip n at)) bytes clip image = clipped_image image at clip
 carried_image (Ok (decision.Write n size w)) bytes clip image = written_with w (span bytes 0 size) (clipped_image image w.place.offset clip)
+
+-- ---- what is decided on lies behind the header and apart as well: that is promised, and not asked where it is carried out
+
+-- n bytes at `at` lie behind the header; nothing is asked where there is no byte
+abbrev pub BehindHeader : ℕ → ℕ → Type 0
+BehindHeader at n = 0 < n → 0x440 ≤ at
+
+-- n bytes here and n bytes there share none
+abbrev pub AreApart : ℕ → ℕ → ℕ → Type 0
+AreApart here there n = 0 < n → (here + n ≤ there) ⊎ (there + n ≤ here)
+
+pub record IsSetApart (w : Writing) : Type 0 where
+  pub apart : AreApart w.old.offset w.place.offset w.kept
+  pub copy_behind : BehindHeader w.place.offset w.kept
+  pub lost_behind : BehindHeader w.lost.offset w.lost.size
+
+-- in the image as well
+pub record LiesApart (long : ℕ) (w : Writing) : Type 0 where
+  pub inside : InImage long w
+  pub apart : IsSetApart w
+
+-- a clip of n bytes lies in the image, behind the header
+pub record ClipFits (long at n : ℕ) : Type 0 where
+  pub into : Into long at n
+  pub behind : BehindHeader at n
+
+-- the clip and what is written besides the table
+abbrev pub WritesApart : List ℕ → Result Decision Refusal → Type 0
+WritesApart clip (Err c) = Unit {0}
+WritesApart clip (Ok decision.Nothing) = Unit {0}
+WritesApart clip (Ok (decision.Clip n at)) = BehindHeader at (length clip)
+WritesApart clip (Ok (decision.Write n size w)) = BehindHeader w.place.offset (length clip) × IsSetApart w
 
 -- ---- a decision carried out in parts, of an edit without a clip
 
@@ -203,6 +219,7 @@ Carries (Ok (decision.Write n size w)) bytes (filled k clip (filled j more p)) =
 -- d, with these working bytes and this clip, is what the plan comes to where its tests say v
 pub record DecidedAs (v : Verdict) (p : Plan) (image : List ℕ) (room : ℕ) (bytes clip : List ℕ) (d : Result Decision Refusal) : Type 0 where
   pub fits : CanCarry image room clip d
+  pub apart : WritesApart clip d
   pub carries : Carries d bytes p
   pub answer : carried_verdict d ≡ v
   pub after : carried_image d bytes clip image ≡ (if is_err v then image else plan_image p image)

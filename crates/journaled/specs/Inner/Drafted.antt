@@ -5,7 +5,7 @@ use Rattle.header.specs.Fields.{fst_size_field}
 use Rattle.edit.specs.declared.decision.Writing.{Writing}
 use Rattle.edit.specs.declared.decision.Decision.{Decision}
 use Rattle.edit.specs.declared.decision.Decision.TheVariants as decision
-use Rattle.edit.specs.Inner.Decision.{CanCarry, carried_image, decision_number}
+use Rattle.edit.specs.Inner.Decision.{CanCarry, WritesApart, carried_image, decision_number}
 use Rattle.totals.specs.declared.Totals.{Totals}
 use Rattle.record_text.specs.Text.{record_text}
 use Rattle.journal.specs.declared.draft.Draft.{Draft}
@@ -103,6 +103,7 @@ IsMade d k clip old new Unkept = ⊥
 -- it can be written to the image, in which a whole header lies
 pub record CanMake (image bytes clip : List ℕ) (decided : Decision) : Type 0 where
   pub fits : CanCarry image (length bytes) clip (Ok decided)
+  pub apart : WritesApart clip (Ok decided)
   pub aside : IsAside decided clip
   pub long : 0x440 ≤ length image
 
