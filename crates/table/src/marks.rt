@@ -40,9 +40,12 @@ impl<'a> Marks<'a> {
             base,
             set: [false; 2048],
         };
+        // The blocks that start in the table or where it ends: no text leaves a block for one behind. Too few
+        // would cost only time.
+        let blocks = table.len().saturating_sub(base) / 1024 + 1;
         // Kept: by number (N): each turn asks the marks behind, so that they cannot be lent one by one, and
         // the place that a mark is about is reckoned from its number.
-        for mark in (0..2048).rev() {
+        for mark in (0..(2 * blocks).min(2048)).rev() {
             let fit = marks.is_fit(base + (1024 * (mark / 2) + mark % 2));
             marks.set[mark] = fit;
         }
@@ -50,7 +53,9 @@ impl<'a> Marks<'a> {
     }
 
     // Whether the text at `at` is fit: its units in this block, then a mark of the next. Where false is wrong
-    // it costs only time, so that is not proved.
+    // it costs only time, so that is not proved. In a function of its own: inlined, it made the walk over names
+    // slower where nothing is marked.
+    #[inline(never)]
     fn is_fit(&self, at: usize) -> bool
         requires from { self.now.base ≤ at }
         requires near { at ≤ 33554432 }

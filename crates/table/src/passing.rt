@@ -49,7 +49,8 @@ const TRAILS: [u8; 256] = *b"\
 // Passes the units of the text at `from` that start before `end`, up to the text's end or one that is not
 // clean. Where it stops costs only time.
 // Kept: by index, and each byte looked up (S): `Units` and `is_clean` took 3 times as long for names that
-// share texts of pairs.
+// share texts of pairs. The charts are read where they lie: laid out at each call, as below, they took 3 times
+// as long for a name of one byte.
 pub fn pass_units(table: &[u8], from: usize, end: usize) -> usize
     requires { from ≤ end }
     ensures near { result ≤ end + 1 }
@@ -59,8 +60,8 @@ pub fn pass_units(table: &[u8], from: usize, end: usize) -> usize
         return from;
     }
     let stop = end.min(table.len() - 1);
-    let kinds = KINDS;
-    let trails = TRAILS;
+    let kinds = &KINDS;
+    let trails = &TRAILS;
     let mut at = from;
     while at < stop {
         let kind = kinds[table[at] as usize];
