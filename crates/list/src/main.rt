@@ -21,10 +21,11 @@ fn list<P: Print>(rt: &P, image: &[u8], words: &mut [u32], text: &mut [u8]) -> i
 }
 
 // One byte more than is accepted tells whether there are more.
+// Kept: arrays, so that words and text cannot be refused for want of memory.
 fn main(rt: HostRuntime) -> io::Result<()> {
     let mut image = Vec::new(rt.alloc());
-    let mut words = vec![in rt.alloc(); 0u32; WORDS]?;
-    let mut text = vec![in rt.alloc(); 0u8; TEXT]?;
+    let mut words = [0; WORDS];
+    let mut text = [0; TEXT];
     rt.reader().take(MOST_BYTES + 1).read_to_end(&mut image)?;
-    list(&rt, &image, &mut words, &mut text)
+    list(&rt, &image, words.as_mut_slice(), text.as_mut_slice())
 }

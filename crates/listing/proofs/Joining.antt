@@ -1,15 +1,13 @@
--- Texts written one behind the other are one text; a text copied byte by byte. Assumes nothing.
-use Prim.Native.Nat.{ℕ, ◌+◌, ◌<◌, ◌≤◌, ◌^◌}
+-- Texts written one behind the other are one text; bytes written at once. Assumes nothing.
+use Prim.Native.Nat.{ℕ, ◌+◌, ◌<◌, ◌≤◌, ◌^◌, min}
 use mathlib.Core.Path.{◌≡◌, refl, sym, ap, ◌∙◌}
 use mathlib.Core.List.{List, [], ◌∷◌, ◌++◌, append_assoc}
 use native.Mathlib.Omega.{arith}
-use lib.ListN.{length, get_or, take, length-append}
-use Rattle.std.proofs.lemmas.List.{take_more, take_all}
-use Rattle.endian.specs.Bytes.{put}
+use lib.ListN.{length, take, length-append}
+use Rattle.std.proofs.lemmas.List.{take_all}
+use Rattle.endian.specs.Bytes.{put, span}
 use Rattle.endian.specs.Laws.Stored.{length-put, span-put, put-none}
 use Rattle.endian.proofs.Parts.{put-append}
-use Rattle.table.specs.Inner.Texts.{text_at}
-use Rattle.table.proofs.Texts.{text-more}
 use Rattle.listing.specs.Inner.Writing.{Wrote, Appends}
 use Rattle.listing.specs.declared.buffer.TextBuffer.{TextBuffer}
 
@@ -59,26 +57,17 @@ appends-first t u bs f z s h =
 
 -- ---- bytes, each as it is
 
-pub bytes-turn : (bytes : List ℕ) (t u v : TextBuffer) (i : ℕ) → i < length bytes → Appends t u (take i bytes) → Appends u v (get_or bytes i 0 ∷ []) → Appends t v (take (i + 1) bytes)
-bytes-turn bytes t u v i h f g = appends-as (appends-join f g) (sym (take_more bytes i 0 h))
+-- where their end is right: all of them where there is room, and nothing is said of a buffer that is too short
+module _ (text : List ℕ) (at : ℕ) (bs : List ℕ) (end : ℕ) (stop : min end (2 ^ 63) ≡ min (at + length bs) (2 ^ 63)) where
+  pub wrote-whole : (text' : List ℕ) → text' ≡ put text at (span bs 0 (length bs)) → Wrote text text' at bs end
+  wrote-whole text' e = record { stop = stop; laid = λ h l. e ∙ ap (put text at) (take_all (length bs) bs (omega arith)) }
 
-pub bytes-all : (bytes : List ℕ) (t u : TextBuffer) (i : ℕ) → length bytes ≤ i → Appends t u (take i bytes) → Appends t u bytes
-bytes-all bytes t u i h f = appends-as f (take_all i bytes h)
+  pub wrote-cut : (text' : List ℕ) → length text < at + length bs → Wrote text text' at bs end
+  wrote-cut text' h = record { stop = stop; laid = λ k l. absurd (omega arith) }
 
--- ---- a text up to its end
-
-pub record Copying (source : List ℕ) (t u : TextBuffer) (i : ℕ) : Type 0 where
-  pub done : List ℕ
-  pub appends : Appends t u done
-  pub left : done ++ text_at source i ≡ text_at source 0
-
-pub copy_start : (source : List ℕ) (t : TextBuffer) → Copying source t t 0
-copy_start source t = record { done = []; appends = appends-none t; left = refl }
-
-module _ (source : List ℕ) (t u : TextBuffer) (i : ℕ) (c : Copying source t u i) where
-  pub copy-turn : (v : TextBuffer) → (get_or source i 0 ≡ 0 → ⊥) → Appends u v (get_or source i 0 ∷ []) → Copying source t v (i + 1)
-  copy-turn v h w = record {
-    done = c.done ++ (get_or source i 0 ∷ []);
-    appends = appends-join c.appends w;
-    left = append_assoc c.done (get_or source i 0 ∷ []) (text_at source (i + 1)) ∙ (rw (text-more source i h) at c.left);
-  }
+  pub wrote-past : length text ≤ at → Wrote text text at bs end
+  wrote-past h = record { stop = stop; laid = λ k l. go bs (omega arith) }
+    where
+      go : (l : List ℕ) → length l ≡ 0 → text ≡ put text at l
+      go [] e = sym (put-none text at)
+      go (b ∷ l) e = absurd (omega arith)

@@ -7,7 +7,7 @@ use mathlib.Core.List.{List, [], ◌∷◌, ◌++◌, append-nil, append_assoc}
 use native.Mathlib.Omega.{arith}
 use lib.ListN.{length, get_or, take, drop, length-drop}
 use lib.Seq.{get_or-take, get_or-drop, length-take-le}
-use Rattle.tree.specs.Table.{Node, file, directory, name_of, empty_root, count, first_text, nodes_of, parent_of}
+use Rattle.tree.specs.Table.{Node, file, directory, name_of, empty_root, nodes_of, parent_of}
 use Rattle.tree.specs.Lookup.{is_directory}
 use Rattle.table.specs.Inner.Fields.{offset_of, size_or_next_of}
 use Rattle.listing.specs.Lines.{totals_line, ending, entry_fields, line_feed, path_of, entry_line, lines_below}
@@ -16,7 +16,6 @@ use Rattle.listing.specs.Inner.Around.{Ends}
 use Rattle.listing.specs.Inner.Writing.{Appends}
 use Rattle.listing.specs.declared.buffer.TextBuffer.{TextBuffer}
 use Rattle.listing.proofs.Joining.{appends-none, appends-join, appends-as}
-use Rattle.listing.proofs.Tables.{whole-name}
 use Rattle.listing.proofs.Paths.{path-root, path-step, first-line, one-line-more, root_line, line-parts}
 
 -- a first byte and two numbers, and what follows
@@ -54,9 +53,9 @@ file-name (file nm offset size) d = sym (append-nil nm)
 file-name (directory nm next) d = let z : ◌≡◌ {A = ℕ} 0 1 = cc in absurd (omega arith)
 
 -- the name written, and what is behind it by the kind that was read
-module _ (tab : List ℕ) (k : ℕ) (text text₁ : TextBuffer) (inside : k < count tab) {nm : List ℕ} (is : nm ≡ name_of (get_or (nodes_of tab) k empty_root)) (f : Appends text text₁ (first_text nm)) where
+module _ (tab : List ℕ) (k : ℕ) (text text₁ : TextBuffer) {nm : List ℕ} (is : nm ≡ name_of (get_or (nodes_of tab) k empty_root)) (f : Appends text text₁ nm) where
   name-written : Appends text text₁ (name_of (get_or (nodes_of tab) k empty_root))
-  name-written = appends-as f (ap first_text is ∙ whole-name tab k inside)
+  name-written = appends-as f is
 
   pub directory-named : (text₂ : TextBuffer) → is_directory (get_or (nodes_of tab) k empty_root) ≡ true → Appends text₁ text₂ (0x2F ∷ [])
       → Appends text text₂ (name_of (get_or (nodes_of tab) k empty_root) ++ ending (get_or (nodes_of tab) k empty_root))

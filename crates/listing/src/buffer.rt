@@ -51,20 +51,26 @@ impl<'a> TextBuffer<'a> {
     pub fn push_bytes(&mut self, bytes: &[u8])
         ensures { Appends self.old self.new bytes.now }
     {
-        for &byte in bytes {
-            self.push(byte);
+        // At once: a byte at a time, the length would be stored and read again for each.
+        let start = self.len;
+        if start < self.bytes.len() {
+            let room = self.bytes.len() - start;
+            if bytes.len() <= room {
+                endian::copy(bytes, 0, self.bytes, start, bytes.len());
+            } else {
+                endian::copy(bytes, 0, self.bytes, start, room);
+            }
         }
+        self.len = start.saturating_add(bytes.len());
     }
 
     /// The bytes of a text, up to a zero byte or to its end.
     pub fn push_text(&mut self, text: &[u8])
         ensures { Appends self.old self.new (first_text text.now) }
     {
-        for &byte in text {
-            if byte == 0 {
-                return;
-            }
-            self.push(byte);
+        match text.iter().position(|byte| *byte == 0) {
+            Some(len) => self.push_bytes(&text[..len]),
+            None => self.push_bytes(text),
         }
     }
 

@@ -129,7 +129,7 @@ fn put_name(table: &Table<'_>, k: usize, text: &mut TextBuffer<'_>)
     ensures { let node = slice_index_or (nodes_of table.now) k empty_root in
         Appends text.old text.new (name_of node ++ ending node) }
 {
-    text.push_text(table.name(k));
+    text.push_bytes(table.name(k));
     if table.is_directory(k) {
         text.push(b'/');
     }

@@ -5,8 +5,8 @@ use Rattle.listing.proofs.entries.put_name.Goals as goal
 
 pub returns-then-is_directory : goal.returns-then-is_directory
 returns-then-is_directory c =
-    directory-named _ c.args.k _ _ c.requires c.name.ensures c.push_text.ensures _ (sym c.is_directory.ensures ∙ c.if-is_directory.true) c.push.ensures
+    directory-named _ c.args.k _ _ c.name.ensures c.push_bytes.ensures _ (sym c.is_directory.ensures ∙ c.if-is_directory.true) c.push.ensures
 
 pub returns-else-is_directory : goal.returns-else-is_directory
 returns-else-is_directory c =
-    file-named _ c.args.k _ _ c.requires c.name.ensures c.push_text.ensures (sym c.is_directory.ensures ∙ c.if-is_directory.false)
+    file-named _ c.args.k _ _ c.name.ensures c.push_bytes.ensures (sym c.is_directory.ensures ∙ c.if-is_directory.false)
