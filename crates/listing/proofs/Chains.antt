@@ -5,11 +5,12 @@ use mathlib.Core.Path.{◌≡◌, refl, sym, ap, ◌∙◌}
 use mathlib.Core.Logic.{⊎_elim}
 use mathlib.Core.Bool.{Bool, true, false}
 use mathlib.Core.List.{List}
+use denote.Ref.{Bor}
 use native.Mathlib.Omega.{arith}
 use native.Mathlib.Numerals.{add-one}
 use lib.ListN.{length, get_or, set, replicate, length-set, length-replicate}
 use lib.Seq.{get_or-set_same, get_or-set_other}
-use Rattle.tree.specs.Table.{Node, file, directory, empty_root, parent_below, parent_of, is_shallow, count, nodes_of}
+use Rattle.tree.specs.Table.{Node, file, directory, name_of, empty_root, parent_below, parent_of, is_shallow, count, nodes_of}
 use Rattle.tree.specs.Inner.WellFormed.{IsWellFormed}
 use Rattle.tree.specs.Lookup.{is_directory, next_of}
 use Rattle.tree.proofs.Laws.WellNested.{root_is}
@@ -21,7 +22,7 @@ use Rattle.table.proofs.PathLaws.{directory-depth}
 use Rattle.table.proofs.RowLaws.{climb-found, climb-turn, climb-end}
 use Rattle.tree.proofs.Laws.Accepted.{length-nodes_of}
 use Rattle.listing.proofs.Tables.{Read}
-use Rattle.listing.specs.Inner.Around.{Chain, Climbs, Ends}
+use Rattle.listing.specs.Inner.Around.{Chain, Climbs, Ends, Named, no_bytes}
 
 -- ---- the first entry after the root
 
@@ -163,3 +164,24 @@ module _ (tab dirs : List ℕ) (d k : ℕ) (b : Bool) (a : Ends (nodes_of tab) d
 
   pub passed : b ≡ false → Chain (nodes_of tab) dirs d (k + 1) × Climbs (nodes_of tab) dirs d (k + 1)
   passed h = (chain-later a.chain, pass-file a r.is.well some inside (sym asked ∙ h))
+
+-- ---- their names
+
+pub named-start : (nodes : List Node) (names : List (Bor (List ℕ))) → length names ≡ 65 → Named nodes (replicate 65 0) names 1
+named-start nodes names h = record { long = h; each = λ i p q. absurd (omega arith) }
+
+module _ {nodes : List Node} {dirs : List ℕ} {names : List (Bor (List ℕ))} {d : ℕ} (m : Named nodes dirs names d) where
+  pub named-shorter : (e : ℕ) → e ≤ d → Named nodes dirs names e
+  named-shorter e h = record { long = m.long; each = λ i p q. m.each i p (omega arith) }
+
+  pub named-more : (k : ℕ) (b : Bor (List ℕ)) → length dirs ≡ 65 → d < 65 → b.now ≡ name_of (get_or nodes k empty_root) → Named nodes (set dirs d k) (set names d b) (d + 1)
+  named-more k b l room e = record {
+    long = length-set names d b ∙ m.long;
+    each = λ i p q. ⊎_elim (λ j. before i p j) (λ (j : d ≤ i). let n : i ≡ d = omega arith in rw n last) (lt-or-le i d);
+  }
+    where
+      before : (i : ℕ) → 0 < i → i < d → (get_or (set names d b) i no_bytes).now ≡ name_of (get_or nodes (get_or (set dirs d k) i 0) empty_root)
+      before i p q = rw (get_or-set_other names d i b no_bytes (λ x. omega arith), get_or-set_other dirs d i k 0 (λ x. omega arith)) (m.each i p q)
+
+      last : (get_or (set names d b) d no_bytes).now ≡ name_of (get_or nodes (get_or (set dirs d k) d 0) empty_root)
+      last = rw (get_or-set_same names d b no_bytes (omega (arith, m.long)), get_or-set_same dirs d k 0 (omega (arith, l))) e

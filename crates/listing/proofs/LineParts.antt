@@ -5,6 +5,7 @@ use mathlib.Core.Path.{◌≡◌, refl, sym, ap, ◌∙◌}
 use mathlib.Core.Bool.{true, false}
 use mathlib.Core.List.{List, [], ◌∷◌, ◌++◌, append-nil, append_assoc}
 use native.Mathlib.Omega.{arith}
+use denote.Ref.{Bor}
 use lib.ListN.{length, get_or, take, drop, length-drop}
 use lib.Seq.{get_or-take, get_or-drop, length-take-le}
 use Rattle.tree.specs.Table.{Node, file, directory, name_of, empty_root, nodes_of, parent_of}
@@ -12,7 +13,7 @@ use Rattle.tree.specs.Lookup.{is_directory}
 use Rattle.table.specs.Inner.Fields.{offset_of, size_or_next_of}
 use Rattle.listing.specs.Lines.{totals_line, ending, entry_fields, line_feed, path_of, entry_line, lines_below}
 use Rattle.listing.specs.Decimal.{number_field}
-use Rattle.listing.specs.Inner.Around.{Ends}
+use Rattle.listing.specs.Inner.Around.{Ends, Named, no_bytes}
 use Rattle.listing.specs.Inner.Writing.{Appends}
 use Rattle.listing.specs.declared.buffer.TextBuffer.{TextBuffer}
 use Rattle.listing.proofs.Joining.{appends-none, appends-join, appends-as}
@@ -110,24 +111,25 @@ module _ {nodes : List Node} {dirs : List ℕ} {d k : ℕ} (a : Ends nodes dirs 
         let e : 0x2F ∷ s.done ≡ path_of nodes (parent_of nodes k) = s.is ∙ ap (λ (j : ℕ). path_of nodes (get_or dirs j 0)) n ∙ ap (path_of nodes) (sym a.last) in
         appends-as (appends-join w s.wrote) (ap (λ (p : List ℕ). 0x20 ∷ p) e)
 
--- the same of the directories after the root, one by one
-module _ {nodes : List Node} {dirs : List ℕ} {d k : ℕ} (a : Ends nodes dirs d k) where
-  long-after : length (take (d - 1) (drop 1 dirs)) ≡ d - 1
-  long-after = length-take-le (d - 1) (drop 1 dirs) (omega (arith, length-drop 1 dirs, a.chain.long, a.chain.few))
+-- the same by the names of the directories after the root, one by one
+module _ {nodes : List Node} {dirs : List ℕ} {names : List (Bor (List ℕ))} {d k : ℕ} (a : Ends nodes dirs d k) (m : Named nodes dirs names d) where
+  long-after : length (take (d - 1) (drop 1 names)) ≡ d - 1
+  long-after = length-take-le (d - 1) (drop 1 names) (omega (arith, length-drop 1 names, m.long, a.chain.few))
 
   module _ {text₀ text : TextBuffer} {j : ℕ} (s : Stepping nodes dirs d text₀ text (j + 1)) where
-    at-after : j < length (take (d - 1) (drop 1 dirs)) → get_or (take (d - 1) (drop 1 dirs)) j 0 ≡ get_or dirs (j + 1) 0
-    at-after h = let n : 1 + j ≡ j + 1 = omega arith in get_or-take (d - 1) (drop 1 dirs) j 0 (omega (arith, long-after)) ∙ get_or-drop 1 dirs j 0 ∙ ap (λ (i : ℕ). get_or dirs i 0) n
+    at-after : j < length (take (d - 1) (drop 1 names)) → (get_or (take (d - 1) (drop 1 names)) j no_bytes).now ≡ name_of (get_or nodes (get_or dirs (j + 1) 0) empty_root)
+    at-after h =
+        let n : 1 + j ≡ j + 1 = omega arith in
+        ap (λ (b : Bor (List ℕ)). b.now) (get_or-take (d - 1) (drop 1 names) j no_bytes (omega (arith, long-after)) ∙ get_or-drop 1 names j no_bytes ∙ ap (λ (i : ℕ). get_or names i no_bytes) n)
+        ∙ m.each (j + 1) (omega arith) (omega (arith, long-after))
 
-    pub after-named : j < length (take (d - 1) (drop 1 dirs)) → (0 < get_or (take (d - 1) (drop 1 dirs)) j 0) × (get_or (take (d - 1) (drop 1 dirs)) j 0 < k)
-    after-named h = rw (at-after h) ((step-nested a s (omega (arith, long-after))).0, a.chain.before (j + 1) (omega (arith, long-after)))
+    pub after-turn : {text' text'' : TextBuffer} → j < length (take (d - 1) (drop 1 names)) → Appends text text' (get_or (take (d - 1) (drop 1 names)) j no_bytes).now → Appends text' text'' (0x2F ∷ []) →
+        Stepping nodes dirs d text₀ text'' (j + 1 + 1)
+    after-turn h f g =
+        let i : j + 1 < d = omega (arith, long-after) in
+        step-turn a s i (appends-as (appends-join (appends-as f (at-after h)) g) (directory-name (get_or nodes (get_or dirs (j + 1) 0) empty_root) (a.chain.directories (j + 1) i)))
 
-    pub after-turn : {text' : TextBuffer} → j < length (take (d - 1) (drop 1 dirs)) →
-        Appends text text' (name_of (get_or nodes (get_or (take (d - 1) (drop 1 dirs)) j 0) empty_root) ++ ending (get_or nodes (get_or (take (d - 1) (drop 1 dirs)) j 0) empty_root)) →
-        Stepping nodes dirs d text₀ text' (j + 1 + 1)
-    after-turn h w = step-turn a s (omega (arith, long-after)) (rw (at-after h) at w)
-
-    pub after-end : length (take (d - 1) (drop 1 dirs)) ≤ j → {text₁ : TextBuffer} → Appends text₁ text₀ (0x20 ∷ 0x2F ∷ []) → Appends text₁ text (0x20 ∷ path_of nodes (parent_of nodes k))
+    pub after-end : length (take (d - 1) (drop 1 names)) ≤ j → {text₁ : TextBuffer} → Appends text₁ text₀ (0x20 ∷ 0x2F ∷ []) → Appends text₁ text (0x20 ∷ path_of nodes (parent_of nodes k))
     after-end h w = step_end a s (omega (arith, long-after)) w
 
 -- ---- line by line

@@ -1,6 +1,6 @@
 // The lines of the entries of an accepted table. The directories around an entry are kept, so that
 // a line costs no more than its path: 65 at most, since no directory is deeper than 64.
-ghost use Rattle.std.specs.Prelude.{◌≡◌, ◌∷◌, ◌++◌, ◌+◌, ◌<◌, ◌≤◌, ◌^◌, replicate, slice_index_or};
+ghost use Rattle.std.specs.Prelude.{◌≡◌, ◌∷◌, ◌++◌, ◌+◌, ◌<◌, ◌≤◌, ◌^◌, length, replicate, slice_index_or};
 ghost use Rattle.tree.specs.Table as table_of;
 ghost use Rattle.tree.specs.Table.{empty_root, nodes_of, name_of, parent_of};
 ghost use Rattle.listing.specs.Lines.{ending, entry_fields, path_of, entry_line, lines_below};
@@ -13,20 +13,25 @@ use table::Table;
 
 // The directories around an entry, the root first.
 #[derive(Drop)]
-struct Directories {
+struct Directories<'a> {
     // Kept: nothing allocates, so that there is room for as many as can be. `table`'s `Stack`
     // shows its top alone, and a path is put from the root on.
     numbers: [usize; 65],
+    // Their names, so that a path looks for the end of none.
+    names: [&'a [u8]; 65],
     depth: usize,
 }
 
-impl Directories {
+impl<'a> Directories<'a> {
     // The root alone.
     fn root() -> Self
-        ensures { result ≡ record { numbers = replicate 65 0; depth = 1 } }
+        ensures numbers { result.numbers ≡ replicate 65 0 }
+        ensures names { length result.names ≡ 65 }
+        ensures depth { result.depth ≡ 1 }
     {
         Directories {
             numbers: [0; 65],
+            names: [&[]; 65],
             depth: 1,
         }
     }
@@ -44,7 +49,7 @@ impl Directories {
     }
 
     // Adds entry k, if it is a directory.
-    fn enter(&mut self, table: &Table<'_>, k: usize)
+    fn enter(&mut self, table: &Table<'a>, k: usize)
         requires not_root { 0 < k }
         requires within { k < table_of.count table.now }
         requires nested { IsAround (nodes_of table.now) self.old k }
@@ -54,6 +59,7 @@ impl Directories {
         let _ = table.len();
         if table.is_directory(k) {
             self.numbers[self.depth] = k;
+            self.names[self.depth] = table.name(k);
             self.depth += 1;
         }
     }
@@ -64,7 +70,7 @@ impl Directories {
 struct Entry<'a> {
     table: &'a Table<'a>,
     number: usize,
-    around: &'a Directories,
+    around: &'a Directories<'a>,
     ghost not_root: { 0 < number },
     ghost within: { number < table_of.count table.now },
     ghost few: { number < 2 ^ 32 },
@@ -86,9 +92,10 @@ impl Entry<'_> {
             Appends text.old text.new (0x20 ∷ path_of nodes (parent_of nodes self.now.number)) }
     {
         text.push_text(b" /");
-        let numbers = &self.around.numbers[..];
-        for &directory in &numbers[1..self.around.depth] {
-            put_name(self.table, directory, text);
+        let names = &self.around.names[..];
+        for name in &names[1..self.around.depth] {
+            text.push_bytes(name);
+            text.push(b'/');
         }
     }
 

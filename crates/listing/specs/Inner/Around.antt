@@ -1,7 +1,8 @@
 -- The directories around an entry, as the functions inside keep them.
 -- Assumes nothing: these are definitions.
-use Rattle.std.specs.Prelude.{ℕ, ◌+◌, ◌-◌, ◌<◌, ◌≤◌, ◌≡◌, true, List, length, slice_index, slice_index_or}
-use Rattle.tree.specs.Table.{Node, empty_root, parent_below, parent_of}
+use Rattle.std.specs.Prelude.{ℕ, ◌+◌, ◌-◌, ◌<◌, ◌≤◌, ◌≡◌, true, List, [], length, slice_index, slice_index_or}
+use Rattle.std.specs.Borrow.{Bor}
+use Rattle.tree.specs.Table.{Node, name_of, empty_root, parent_below, parent_of}
 use Rattle.tree.specs.Lookup.{is_directory}
 use Rattle.listing.specs.declared.entries.Directories.{Directories}
 
@@ -24,10 +25,19 @@ pub record Ends (nodes : List Node) (dirs : List ℕ) (d k : ℕ) : Type 0 where
   pub chain : Chain nodes dirs d k
   pub last : parent_of nodes k ≡ slice_index dirs (d - 1)
 
+-- no bytes lent, as past the end of a list
+abbrev pub no_bytes : Bor (List ℕ)
+no_bytes = record { ref_ptr = (0, 0); now = [] }
+
+-- the names of the first d directories, but for the root's, which is not kept
+pub record Named (nodes : List Node) (dirs : List ℕ) (names : List (Bor (List ℕ))) (d : ℕ) : Type 0 where
+  pub long : length names ≡ 65
+  pub each : (i : ℕ) → 0 < i → i < d → (slice_index_or names i no_bytes).now ≡ name_of (slice_index_or nodes (slice_index dirs i) empty_root)
+
 -- entry k is nested in the last of the directories, or in one around that
 abbrev pub IsBefore : List Node → Directories → ℕ → Type 0
-IsBefore nodes around k = Chain nodes around.numbers around.depth k × Climbs nodes around.numbers around.depth k
+IsBefore nodes around k = (Chain nodes around.numbers around.depth k × Climbs nodes around.numbers around.depth k) × Named nodes around.numbers around.names around.depth
 
 -- the directories are those around entry k
 abbrev pub IsAround : List Node → Directories → ℕ → Type 0
-IsAround nodes around k = Ends nodes around.numbers around.depth k
+IsAround nodes around k = Ends nodes around.numbers around.depth k × Named nodes around.numbers around.names around.depth

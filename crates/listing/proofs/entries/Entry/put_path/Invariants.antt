@@ -4,5 +4,5 @@ use Rattle.tree.specs.Table.{nodes_of}
 use Rattle.listing.proofs.LineParts.{Stepping}
 use Rattle.listing.proofs.entries.Entry.put_path.Given as goal
 
-abbrev pub invariant-loop-directory : goal.invariant-loop-directory
-invariant-loop-directory l = Stepping (nodes_of l.self.table.now) l.self.around.now.numbers l.self.around.now.depth l.initial.text l.text (l.directory-index + 1)
+abbrev pub invariant-loop-name : goal.invariant-loop-name
+invariant-loop-name l = Stepping (nodes_of l.self.table.now) l.self.around.now.numbers l.self.around.now.depth l.initial.text l.text (l.name-index + 1)
