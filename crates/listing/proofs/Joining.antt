@@ -1,13 +1,15 @@
--- Texts written one behind the other are one text; bytes written at once. Assumes nothing.
+-- Texts written one behind the other are one text; bytes written at once, and byte by byte. Assumes nothing.
 use Prim.Native.Nat.{ℕ, ◌+◌, ◌<◌, ◌≤◌, ◌^◌, min}
 use mathlib.Core.Path.{◌≡◌, refl, sym, ap, ◌∙◌}
-use mathlib.Core.List.{List, [], ◌∷◌, ◌++◌}
+use mathlib.Core.List.{List, [], ◌∷◌, ◌++◌, append_assoc}
 use native.Mathlib.Omega.{arith}
-use lib.ListN.{length, take, length-append}
-use Rattle.std.proofs.lemmas.List.{take_all}
+use lib.ListN.{length, get_or, take, length-append}
+use Rattle.std.proofs.lemmas.List.{take_more, take_all}
 use Rattle.endian.specs.Bytes.{put, span}
 use Rattle.endian.specs.Laws.Stored.{length-put, span-put, put-none}
 use Rattle.endian.proofs.Parts.{put-append}
+use Rattle.table.specs.Inner.Texts.{text_at}
+use Rattle.table.proofs.Texts.{text-more}
 use Rattle.listing.specs.Inner.Writing.{Wrote, Appends}
 use Rattle.listing.specs.declared.buffer.TextBuffer.{TextBuffer}
 
@@ -55,7 +57,15 @@ appends-first t u bs f z s h =
     let e : u.bytes.now ≡ put t.bytes.now 0 bs = w.laid (omega (arith, n)) (omega (arith, n)) in
     rw (n, e) (span-put t.bytes.now 0 bs (omega (arith, n)))
 
--- ---- bytes, each as it is
+-- ---- bytes, one at a time
+
+pub bytes-turn : (bytes : List ℕ) (t u v : TextBuffer) (i : ℕ) → i < length bytes → Appends t u (take i bytes) → Appends u v (get_or bytes i 0 ∷ []) → Appends t v (take (i + 1) bytes)
+bytes-turn bytes t u v i h f g = appends-as (appends-join f g) (sym (take_more bytes i 0 h))
+
+pub bytes-all : (bytes : List ℕ) (t u : TextBuffer) (i : ℕ) → length bytes ≤ i → Appends t u (take i bytes) → Appends t u bytes
+bytes-all bytes t u i h f = appends-as f (take_all i bytes h)
+
+-- ---- bytes, at once
 
 -- where their end is right: all of them where there is room, and nothing is said of a buffer that is too short
 module _ (text : List ℕ) (at : ℕ) (bs : List ℕ) (end : ℕ) (stop : min end (2 ^ 63) ≡ min (at + length bs) (2 ^ 63)) where
@@ -71,3 +81,21 @@ module _ (text : List ℕ) (at : ℕ) (bs : List ℕ) (end : ℕ) (stop : min en
       go : (l : List ℕ) → length l ≡ 0 → text ≡ put text at l
       go [] e = sym (put-none text at)
       go (b ∷ l) e = absurd (omega arith)
+
+-- ---- a text up to its end, one byte at a time
+
+pub record Copying (source : List ℕ) (t u : TextBuffer) (i : ℕ) : Type 0 where
+  pub done : List ℕ
+  pub appends : Appends t u done
+  pub left : done ++ text_at source i ≡ text_at source 0
+
+pub copy_start : (source : List ℕ) (t : TextBuffer) → Copying source t t 0
+copy_start source t = record { done = []; appends = appends-none t; left = refl }
+
+module _ (source : List ℕ) (t u : TextBuffer) (i : ℕ) (c : Copying source t u i) where
+  pub copy-turn : (v : TextBuffer) → (get_or source i 0 ≡ 0 → ⊥) → Appends u v (get_or source i 0 ∷ []) → Copying source t v (i + 1)
+  copy-turn v h w = record {
+    done = c.done ++ (get_or source i 0 ∷ []);
+    appends = appends-join c.appends w;
+    left = append_assoc c.done (get_or source i 0 ∷ []) (text_at source (i + 1)) ∙ (rw (text-more source i h) at c.left);
+  }

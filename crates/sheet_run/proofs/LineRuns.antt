@@ -13,7 +13,7 @@ use Rattle.edit_rules.specs.Promise.{loan}
 use Rattle.ledger.specs.Runs.{IsPassable}
 use Rattle.edit.specs.declared.decision.Decision.{Decision}
 use Rattle.edit.specs.Inner.Accounting.{Accounted, account_with, IsEntered}
-use Rattle.edit.specs.Inner.Decision.{CanCarry, carried_answer, carried_image, verdict_in}
+use Rattle.edit.specs.Inner.Decision.{CanCarry, WritesApart, carried_answer, carried_image, verdict_in}
 use Rattle.edit.proofs.Discs.{nodes_are}
 use Rattle.edit.proofs.EditCases.{opens, opened-accounted}
 use Rattle.edit.proofs.Edited.{edited}
@@ -51,11 +51,11 @@ verdict-behind : (v : Verdict) (k : ℕ) → verdict_in (number_behind v k) ≡ 
 verdict-behind (Ok _) k = refl
 verdict-behind (Err c) k = refl
 
--- what is decided on can be carried out, with no clip
+-- what is decided on can be carried out, with no clip, and lies behind the header and apart
 pub carries : (image : List ℕ) (words room : ℕ) (b : List ℕ) (a : Account) (d : Result Decision Refusal) (t : Totals) (found : Result edits.Edit Refusal) →
-    IsLineDecided image words room b a (account_with d t) found → CanCarry image room [] d
-carries image words room b a d t (Err c) h = let e : d ≡ Err c = ap (λ (x : Accounted). x.decision) h in rw e tt
-carries image words room b a d t (Ok ed) h = h.1.decided.fits
+    IsLineDecided image words room b a (account_with d t) found → CanCarry image room [] d × WritesApart [] d
+carries image words room b a d t (Err c) h = let e : d ≡ Err c = ap (λ (x : Accounted). x.decision) h in rw e (tt, tt)
+carries image words room b a d t (Ok ed) h = (h.1.decided.fits, h.1.decided.apart)
 
 module _ (team : ℕ) (image words bytes b image' words' bytes' : List ℕ) (t t' : Totals) (d : Result Decision Refusal) where
   pub made : (found : Result edits.Edit Refusal) → IsLineDecided image (length words) (length bytes) b (account t team) (account_with d t') found →

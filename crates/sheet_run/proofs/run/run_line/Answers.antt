@@ -6,7 +6,7 @@ use Rattle.sheet_run.proofs.LineRuns.{carries, made}
 use Rattle.sheet_run.proofs.run.run_line.Goals as goal
 
 pub finish-requires : goal.finish-requires
-finish-requires c = rw c.decide_line-decided.auto.bytes (carries _ _ _ _ _ _ _ _ c.decide_line-decided.ensures)
+finish-requires c = rw c.decide_line-decided.auto.bytes (carries _ _ _ _ _ _ _ _ c.decide_line-decided.ensures).0
 
 pub returns-in_err-finish : goal.returns-in_err-finish
 returns-in_err-finish c =
